@@ -18,7 +18,7 @@ import sys
 TOP = os.path.join(os.path.dirname(os.path.abspath(__file__)), "..")
 CRATES = os.path.join(TOP, "crates")
 EDITS = os.path.join(TOP, "tests", "edits")
-LIBRARIES = "rmp_wire rmp_encode rmp_decode rmp_scan rmp_ends rmp_round_trip rmp_types rmp_serde canon_lines".split()
+LIBRARIES = "rmp_wire rmp_encode rmp_decode rmp_scan rmp_ends rmp_path rmp_round_trip rmp_types rmp_serde canon_lines".split()
 # Functions whose body is another's, but for a width, a kind or a constant, or a call of it.
 ALIKE = {
     "IoSink_new": "IoSource_new",

@@ -37,12 +37,14 @@ pub use Rattle.rmp_types.specs.TimestampRounds
 pub use Rattle.rmp_types.specs.Timestamps
 pub mod Equal
 pub mod EqualLaws
+pub mod Explaining
 pub mod Flat
 pub mod OpenParts
 pub mod OpenReadable
 pub mod PairsLeft
 pub mod Parts
 pub mod PartsLeft
+pub mod Paths
 pub mod Places
 pub mod RawRounds
 pub mod Quoted

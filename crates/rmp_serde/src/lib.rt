@@ -6,14 +6,18 @@ mod check;
 pub mod decode;
 pub mod encode;
 pub mod laws;
+mod path;
 mod raw;
+mod refusal;
 mod value;
 
 pub use canonical::{from_slice_canonical, from_slice_canonical_named};
 pub use check::{Canon, check_canonical};
 pub use decode::{Deserializer, from_read, from_read_ref, from_slice, from_slice_strict};
 pub use encode::{Serializer, to_vec, to_vec_named};
+pub use path::{Path, Step, path_at};
 pub use raw::{Raw, RawRef};
+pub use refusal::{Explained, explain, from_slice_explained, from_slice_strict_explained};
 pub use rmp_decode::Deserialize;
 pub use rmp_encode::Serialize;
 pub use rmp_ends::EndsInside;

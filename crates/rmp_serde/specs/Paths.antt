@@ -1,0 +1,58 @@
+-- The path from a message to one of its parts, as people read it.
+use Rattle.std.specs.Prelude.{◌≡◌, ℕ, suc, ◌+◌, ◌*◌, ◌-◌, ◌<◌, ◌≤◌, List, [], ◌∷◌, length, take, drop, Option, None, true, false}
+use Rattle.std.specs.String.{string_bytes}
+use Rattle.rmp_wire.specs.Msg.{Msg, text}
+use Rattle.rmp_wire.specs.Spelling.{Spells}
+use Rattle.rmp_decode.specs.Law.{Begins, Readable}
+use Rattle.rmp_path.specs.Places.{is_map_turn, before_of, start_of_part, start_before}
+use Rattle.rmp_path.specs.declared.location.Location.{Location}
+use Rattle.rmp_path.specs.declared.turn.Turn.{Turn}
+use Rattle.rmp_serde.specs.Parts.{text_of}
+use Rattle.rmp_serde.specs.Read.{reads_value}
+use Rattle.rmp_serde.specs.TreeText.{tree_text}
+use Rattle.rmp_serde.specs.declared.path.Path.{Path}
+use Rattle.rmp_serde.specs.declared.path.Step.{Step}
+use Rattle.rmp_serde.specs.declared.path.Step.TheVariants as step
+
+abbrev pub message_of : Path → ℕ
+message_of p = p.message
+
+abbrev pub place_of : Path → ℕ
+place_of p = p.place
+
+abbrev pub steps_of : Path → List Step
+steps_of p = p.steps.items
+
+-- the bytes of the part before the one that the turn is to: of a value those of its key
+abbrev pub bytes_before : List ℕ → Turn → List ℕ
+bytes_before input t = take (start_of_part t - start_before t) (drop (start_before t) input)
+
+-- a beginning of the bytes spells a message of which P holds
+abbrev pub KeyIs : (Msg → Type 0) → List ℕ → Type 0
+KeyIs P bytes = (m : Msg) × P m × Begins Spells (λ k. reads_value k m) 1024 bytes
+
+-- the turn is to the value of the pair that has so many before it
+pub record IsValueTurn (t : Turn) (pairs : ℕ) : Type 0 where
+  pub in_map : is_map_turn t ≡ true
+  pub before : before_of t ≡ suc (2 * pairs)
+
+-- the step says which part the turn is to
+abbrev pub IsStep : List ℕ → Turn → Step → Type 0
+IsStep input t (step.Index n) = (is_map_turn t ≡ false) × (n ≡ before_of t)
+IsStep input t (step.Key s) = ((n : ℕ) × IsValueTurn t n) × KeyIs (λ m. m ≡ text (string_bytes s)) (bytes_before input t)
+IsStep input t (step.Other s) = ((n : ℕ) × IsValueTurn t n) × KeyIs (λ m. (text_of m ≡ None) × (string_bytes s ≡ tree_text m)) (bytes_before input t)
+IsStep input t (step.Value n) = IsValueTurn t n
+    × (start_before t ≤ start_of_part t → start_of_part t ≤ length input → Begins Spells (Readable reads_value) 1024 (bytes_before input t) → ⊥)
+IsStep input t (step.KeyOf n) = (is_map_turn t ≡ true) × (before_of t ≡ 2 * n)
+
+-- a step for each turn
+abbrev pub AreSteps : List ℕ → List Turn → List Step → Type 0
+AreSteps input [] [] = Unit {0}
+AreSteps input (t ∷ ts) (s ∷ ss) = IsStep input t s × AreSteps input ts ss
+AreSteps input _ _ = ⊥
+
+-- the path to the part that was located
+pub record IsPathOf (input : List ℕ) (found : Location) (p : Path) : Type 0 where
+  pub message : p.message ≡ found.message
+  pub place : p.place ≡ found.place
+  pub steps : AreSteps input found.turns.items p.steps.items

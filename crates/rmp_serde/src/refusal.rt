@@ -1,0 +1,294 @@
+//! A refusal that says where in the message it is.
+ghost use Rattle.std.specs.Prelude.{◌≡◌, ◌≢◌, ◌-◌, ℕ, IfOk, IfErr, false, true, length, Some};
+ghost use Rattle.rmp_wire.specs.Canonical.{IsCanonical};
+ghost use Rattle.rmp_wire.specs.RefReader.{rest_of, whole_of};
+ghost use Rattle.rmp_wire.specs.Spelling.{Spells};
+ghost use Rattle.rmp_decode.specs.Law.{Begins, Readable};
+ghost use Rattle.rmp_decode.specs.Refusing.{slice_setting};
+ghost use Rattle.rmp_decode.specs.State.{reader_of, refused_levels};
+ghost use Rattle.rmp_serde.specs.Explaining.{error_in, Explains, IsInside, Refuses};
+
+use crate::path::{Path, path_of, write_quoted};
+use crate::value::Kind;
+use rmp_decode::{Deserialize, Deserializer, Error};
+use rmp_path::{Location, locate};
+use rmp_wire::{Head, Marker, ReadRefReader, next_head};
+use std::alloc::{AllocError, Global};
+use std::fmt;
+
+/// A read's error, and the part of the message that was refused.
+///
+/// `Display` prints a line: `missing field "pid" in .origin (byte 33)`, `invalid type at .tags[1] (byte 62): the integer 5`. The byte is the
+/// reader's position where a list or a map is refused for its parts, and otherwise the offset where the refused part begins.
+#[derive(Debug, Drop)]
+pub struct Explained {
+    error: Error,
+    position: usize,
+    path: Option<Path>,
+    head: Option<Head>,
+}
+
+impl Explained {
+    /// Explains an error: `input` are the bytes that were read, `position` is how many of them the reader had consumed, and `levels`
+    /// is its `refused_levels`.
+    ///
+    /// For a reader of a slice `explain` has the same from the reader itself.
+    pub fn new(alloc: Global, input: &[u8], position: usize, levels: u32, error: Error) -> Explained
+        ensures { Explains input.now position levels error result }
+    {
+        let Ok(found) = refused_part(alloc, input, position, levels, &error) else {
+            return Explained {
+                error,
+                position,
+                path: None,
+                head: None,
+            };
+        };
+        let head = head_at(input, found.place);
+        let path = path_of(alloc, input, found).ok();
+        Explained {
+            error,
+            position,
+            path,
+            head,
+        }
+    }
+
+    /// Returns the error, as the read returned it.
+    pub fn error(&self) -> &Error {
+        &self.error
+    }
+
+    /// Returns the error, as the read returned it.
+    pub fn into_error(self) -> Error {
+        self.error
+    }
+
+    /// Returns the path to the refused part, or `None` if memory was refused for it.
+    pub fn path(&self) -> Option<&Path> {
+        self.path.as_ref()
+    }
+
+    /// Returns how many bytes the reader had consumed.
+    pub fn position(&self) -> usize {
+        self.position
+    }
+
+    /// Returns the kind of the refused part, or `None` if no whole head is there.
+    pub fn kind(&self) -> Option<Kind> {
+        match self.head {
+            Some(head) => Some(kind_of(head)),
+            None => None,
+        }
+    }
+}
+
+/// Explains the error of a read from a slice. `de` is the reader that returned it.
+///
+/// # Examples
+/// ```
+/// use rmp_serde::decode::Deserialize;
+/// use rmp_serde::{Deserializer, explain};
+///
+/// let mut de = Deserializer::from_read_ref(alloc, &[0x92, 0xc3, 0x05]);
+/// if let Err(error) = <Vec<bool>>::deserialize(&mut de) {
+///     let why = format!(in alloc; "{}", explain(&de, error))?;
+///     assert_eq!(rt; why.as_str(), "invalid type at [1] (byte 2): the integer 5");
+/// }
+/// ```
+pub fn explain<C>(de: &Deserializer<ReadRefReader<'_>, C>, error: Error) -> Explained
+    ensures { Explains (whole_of (reader_of de.now)) (length (whole_of (reader_of de.now)) - length (rest_of (reader_of de.now))) (refused_levels de.now)
+        error result }
+{
+    let input = de.get_ref();
+    let position = input.len().saturating_sub(de.remaining_slice().len());
+    Explained::new(de.alloc(), input, position, de.refused_levels(), error)
+}
+
+/// Reads a value from the beginning of the input, as `from_slice` does. An error says where in the message it is.
+///
+/// # Errors
+/// As `from_slice`.
+///
+/// # Examples
+/// ```
+/// use rmp_serde::from_slice_explained;
+///
+/// // a list of two pairs, the second with the number 3 in place of a truth
+/// if let Err(refused) = from_slice_explained::<Vec<(u8, bool)>>(alloc, &[0x92, 0x92, 1, 0xc3, 0x92, 2, 3]) {
+///     let why = format!(in alloc; "{refused}")?;
+///     assert_eq!(rt; why.as_str(), "invalid type at [1][1] (byte 6): the integer 3");
+/// }
+/// ```
+pub fn from_slice_explained<'de, T: Deserialize<'de, ReadRefReader<'de>>>(
+    alloc: Global,
+    input: &'de [u8],
+) -> Result<T, Explained>
+    ensures ok { IfOk result (λ v. Begins Spells (λ m. T.reads false true m v) 1024 input.now) }
+    ensures err { IfErr result (λ e. error_in e ≢ Error.OutOfMemory → Begins Spells (Readable (T.reads false true)) 1024 input.now → ⊥) }
+    ensures refused { IfErr result (λ e. T.refuses (slice_setting false) 0 0 (Some input.now) (error_in e)) }
+    // And it names the part.
+    ensures explained { IfErr result (λ e. (position : ℕ) × (levels : ℕ) × Explains input.now position levels (error_in e) e) }
+{
+    let mut de = Deserializer::from_read_ref(alloc, input);
+    match T::deserialize(&mut de) {
+        Ok(value) => Ok(value),
+        Err(error) => Err(explain(&de, error)),
+    }
+}
+
+/// Reads a value from the beginning of the input, as `from_slice_strict` does. An error says where in the message it is.
+///
+/// # Errors
+/// As `from_slice_strict`.
+pub fn from_slice_strict_explained<'de, T: Deserialize<'de, ReadRefReader<'de>>>(
+    alloc: Global,
+    input: &'de [u8],
+) -> Result<T, Explained>
+    ensures ok { IfOk result (λ v. Begins IsCanonical (λ m. T.reads false true m v) 1024 input.now) }
+    ensures err { IfErr result (λ e. error_in e ≢ Error.OutOfMemory → Begins IsCanonical (Readable (T.reads false true)) 1024 input.now → ⊥) }
+    ensures refused { IfErr result (λ e. T.refuses (slice_setting true) 0 0 (Some input.now) (error_in e)) }
+    ensures explained { IfErr result (λ e. (position : ℕ) × (levels : ℕ) × Explains input.now position levels (error_in e) e) }
+{
+    let mut de = Deserializer::from_read_ref(alloc, input).with_binary();
+    de.set_strict(true);
+    match T::deserialize(&mut de) {
+        Ok(value) => Ok(value),
+        Err(error) => Err(explain(&de, error)),
+    }
+}
+
+// The part that an error refuses. Where the message itself is broken it is the innermost one, and otherwise so many levels inside.
+fn refused_part(
+    alloc: Global,
+    input: &[u8],
+    position: usize,
+    levels: u32,
+    error: &Error,
+) -> Result<Location, AllocError>
+    ensures { IfOk result (Refuses input.now position levels error.now) }
+{
+    let last = position.saturating_sub(1);
+    match error {
+        Error::InvalidMarkerRead(_) | Error::InvalidDataRead(_) => locate(
+            alloc,
+            input,
+            input.len(),
+        ),
+        Error::TypeMismatch(Marker::Reserved) => locate(alloc, input, last),
+        Error::DepthLimitExceeded | Error::NotCanonical => locate(alloc, input, last),
+        Error::TypeMismatch(_) => part_inside(alloc, input, position, levels),
+        Error::OutOfRange => part_inside(alloc, input, position, levels),
+        Error::LengthMismatch(_) => part_inside(alloc, input, position, levels),
+        Error::Uncategorized(_) => part_inside(alloc, input, position, levels),
+        Error::Syntax(_) => part_inside(alloc, input, position, levels),
+        Error::Utf8Error(_) => part_inside(alloc, input, position, levels),
+        Error::OutOfMemory => part_inside(alloc, input, position, levels),
+    }
+}
+
+// The part at the last byte that was consumed, so many levels inside of the message.
+fn part_inside(
+    alloc: Global,
+    input: &[u8],
+    position: usize,
+    levels: u32,
+) -> Result<Location, AllocError>
+    ensures { IfOk result (IsInside input.now position levels) }
+{
+    let inner = locate(alloc, input, position.saturating_sub(1))?;
+    Ok(inner.outward(levels as usize))
+}
+
+// The head at an offset, if a whole one is there.
+fn head_at(input: &[u8], place: usize) -> Option<Head> {
+    let mut rest = input.get(place..)?;
+    match next_head(&mut rest) {
+        Ok((_, head)) => Some(head),
+        Err(_) => None,
+    }
+}
+
+fn kind_of(head: Head) -> Kind {
+    match head {
+        Head::Nil => Kind::Nil,
+        Head::Truth(_) => Kind::Truth,
+        Head::Whole(_) => Kind::Whole,
+        Head::F32Bits(_) => Kind::F32,
+        Head::F64Bits(_) => Kind::F64,
+        Head::Text(_) => Kind::Text,
+        Head::Bin(_) => Kind::Bytes,
+        Head::Array(_) => Kind::List,
+        Head::Map(_) => Kind::Map,
+        Head::Ext(_, _) => Kind::Ext,
+    }
+}
+
+// Whether a list or a map is refused for its parts, all of which are well by themselves.
+fn is_for_parts(error: &Error) -> bool {
+    match error {
+        Error::LengthMismatch(_) => true,
+        Error::Syntax(text) => matches!(
+            text.as_str(),
+            "missing field" | "duplicate field" | "invalid length"
+        ),
+        _ => false,
+    }
+}
+
+impl fmt::Display for Explained {
+    fn fmt<W: fmt::Write>(&self, f: &mut fmt::Formatter<W>) -> fmt::Result {
+        write!(f, "{}", self.error)?;
+        if let Some(name) = self.error.field() {
+            f.write_str(" ")?;
+            write_quoted(f, name)?;
+        }
+        let Some(path) = &self.path else {
+            return Ok(());
+        };
+        let for_parts = is_for_parts(&self.error);
+        if !path.steps().is_empty() {
+            f.write_str(if for_parts { " in " } else { " at " })?;
+            write!(f, "{path}")?;
+        }
+        if for_parts {
+            return write!(f, " (byte {})", self.position);
+        }
+        write!(f, " (byte {})", path.place())?;
+        match self.head {
+            Some(head) => write_head(f, head),
+            None => Ok(()),
+        }
+    }
+}
+
+// Writes what is there, in words.
+fn write_head<W: fmt::Write>(f: &mut fmt::Formatter<W>, head: Head) -> fmt::Result {
+    f.write_str(": ")?;
+    match head {
+        Head::Nil => f.write_str("nil"),
+        Head::Truth(truth) => write!(f, "{truth}"),
+        Head::Whole(number) => write!(f, "the integer {number}"),
+        Head::F32Bits(_) => f.write_str("a float of 32 bits"),
+        Head::F64Bits(_) => f.write_str("a float of 64 bits"),
+        Head::Text(len) => write_count(f, "a text of ", len, "byte"),
+        Head::Bin(len) => write_count(f, "bytes, ", len, "byte"),
+        Head::Array(len) => write_count(f, "a list of ", len, "element"),
+        Head::Map(len) => write_count(f, "a map of ", len, "pair"),
+        Head::Ext(len, tag) => {
+            write!(f, "an extension of type {tag}, ")?;
+            write_count(f, "", len, "byte")
+        }
+    }
+}
+
+// Writes how many there are of something.
+fn write_count<W: fmt::Write>(
+    f: &mut fmt::Formatter<W>,
+    before: &str,
+    count: u32,
+    what: &str,
+) -> fmt::Result {
+    write!(f, "{before}{count} {what}")?;
+    f.write_str(if count == 1 { "" } else { "s" })
+}
