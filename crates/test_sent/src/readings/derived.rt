@@ -5,7 +5,6 @@
 ghost use Rattle.rmp_decode.specs.EnumRefusing.{RefusesEnum, with_content};
 ghost use Rattle.rmp_decode.specs.FieldRefusing.{RefusesFields};
 ghost use Rattle.rmp_decode.specs.Fields.{OfFields, Field, Absent, NoField};
-ghost use Rattle.rmp_decode.specs.ReadFields.{reads_3};
 ghost use Rattle.rmp_decode.specs.Refusing.{part_of};
 ghost use Rattle.rmp_decode.specs.Rows.{ReadsEach};
 ghost use Rattle.rmp_decode.specs.Variants.{OfVariant, Case, NoCase, Content};
@@ -28,6 +27,7 @@ ghost use Rattle.rmp_round_trip.specs.VariantRounds.{newtype_variant_some, newty
 ghost use Rattle.rmp_types.specs.FloatRounds.{float_only, float_row, float_inside};
 ghost use Rattle.rmp_types.specs.TimestampRounds.{time_only, time_row, time_inside};
 ghost use Rattle.std.proofs.Common.{refl};
+ghost use Rattle.std.specs.Option.{is_none};
 ghost use Rattle.std.specs.Prelude.{◌≡◌, ◌∷◌, [], None, codes, string_bytes};
 ghost use Rattle.test_sent.specs.declared.readings.Alarm.TheVariants as the_alarm;
 
@@ -78,8 +78,8 @@ impl<'de, R: ReadSlice<'de>> Deserialize<'de, R> for Reading {
     ghost absent = { None };
 
     ghost refuses = { RefusesFields (codes "name" ∷ (codes "load" ∷ (codes "at" ∷ [])))
-        (reads_3 ⟦<String as Deserialize<'de, R>>⟧.reads ⟦<String as Deserialize<'de, R>>⟧.absent ⟦<Float64 as Deserialize<'de, R>>⟧.reads
-        ⟦<Float64 as Deserialize<'de, R>>⟧.absent ⟦<Timestamp as Deserialize<'de, R>>⟧.reads ⟦<Timestamp as Deserialize<'de, R>>⟧.absent)
+        (is_none ⟦<String as Deserialize<'de, R>>⟧.absent ∷
+        (is_none ⟦<Float64 as Deserialize<'de, R>>⟧.absent ∷ (is_none ⟦<Timestamp as Deserialize<'de, R>>⟧.absent ∷ [])))
         (part_of ⟦<String as Deserialize<'de, R>>⟧.reads ⟦<String as Deserialize<'de, R>>⟧.refuses
         ∷ (part_of ⟦<Float64 as Deserialize<'de, R>>⟧.reads ⟦<Float64 as Deserialize<'de, R>>⟧.refuses
         ∷ (part_of ⟦<Timestamp as Deserialize<'de, R>>⟧.reads ⟦<Timestamp as Deserialize<'de, R>>⟧.refuses ∷ []))) };
@@ -204,7 +204,7 @@ impl<'de, R: ReadSlice<'de>> Deserialize<'de, R> for Alarm {
     ghost absent = { None };
 
     ghost refuses = { RefusesEnum (codes "Silent" ∷ (codes "Above" ∷ []))
-        (with_content (RefusesFields (codes "since" ∷ (codes "last" ∷ [])) ⟦<(Timestamp, (Option<Float64>, ())) as ReadFields<'de, R>>⟧.reads
+        (with_content (RefusesFields (codes "since" ∷ (codes "last" ∷ [])) ⟦<(Timestamp, (Option<Float64>, ())) as ReadFields<'de, R>>⟧.needed
         ⟦<(Timestamp, (Option<Float64>, ())) as ReadFields<'de, R>>⟧.parts) ∷ (with_content (⟦<Vec<Float64> as Deserialize<'de, R>>⟧.refuses) ∷ [])) };
 
     fn deserialize<C: SerializerConfig>(
