@@ -12,6 +12,9 @@ use Rattle.rmp_serde.specs.declared.path.Path.{Path}
 abbrev pub error_in : Explained → Error
 error_in e = e.error
 
+abbrev pub path_in : Explained → Option Path
+path_in e = e.path
+
 -- the part at the last byte that was consumed, as many levels inside of the message as were counted
 abbrev pub IsInside : List ℕ → ℕ → ℕ → Location → Type 0
 IsInside input position levels found = (inner : Location) × Locates input (position - 1) inner × IsOutward levels inner found

@@ -1,12 +1,13 @@
 //! A refusal that says where in the message it is.
 ghost use Rattle.std.specs.Prelude.{◌≡◌, ◌≢◌, ◌-◌, ℕ, IfOk, IfErr, false, true, length, Some};
+ghost use Rattle.std.specs.Option.{option_copied};
 ghost use Rattle.rmp_wire.specs.Canonical.{IsCanonical};
 ghost use Rattle.rmp_wire.specs.RefReader.{rest_of, whole_of};
 ghost use Rattle.rmp_wire.specs.Spelling.{Spells};
 ghost use Rattle.rmp_decode.specs.Law.{Begins, Readable};
 ghost use Rattle.rmp_decode.specs.Refusing.{slice_setting};
 ghost use Rattle.rmp_decode.specs.State.{reader_of, refused_levels};
-ghost use Rattle.rmp_serde.specs.Explaining.{error_in, Explains, IsInside, Refuses};
+ghost use Rattle.rmp_serde.specs.Explaining.{error_in, path_in, Explains, IsInside, Refuses};
 
 use crate::path::{Path, path_of, write_quoted};
 use crate::value::Kind;
@@ -65,7 +66,9 @@ impl Explained {
     }
 
     /// Returns the path to the refused part, or `None` if memory was refused for it.
-    pub fn path(&self) -> Option<&Path> {
+    pub fn path(&self) -> Option<&Path>
+        ensures { option_copied result ≡ path_in self.now }
+    {
         self.path.as_ref()
     }
 
