@@ -42,7 +42,7 @@ use std::num::{f64_from_bits_with_nan, f64_to_bits_with_nan};
 /// assert_eq!(rt; half.to_f64(), 0.5);
 /// assert_eq!(rt; tenth.to_f64(), 0.1);
 /// let bytes = to_vec(alloc, &Float64::from_f64(1.0))?;
-/// assert_eq!(rt; bytes.as_slice(), b"\xcb\x3f\xf0\x00\x00\x00\x00\x00\x00");
+/// assert_eq!(rt; bytes.as_slice(), b"\xcb\x3f\xf0\x00\x00\x00\x00\x00\x00".as_slice());
 /// ```
 #[derive(Clone, Copy, Debug, PartialEq, Eq)]
 pub struct Float64 {

@@ -38,7 +38,7 @@ const MOST: u32 = 999_999_999;
 ///
 /// let time = Timestamp::new(1, 500_000_000).unwrap();
 /// let bytes = to_vec(alloc, &time)?;
-/// assert_eq!(rt; bytes.as_slice(), b"\xd7\xff\x77\x35\x94\x00\x00\x00\x00\x01");
+/// assert_eq!(rt; bytes.as_slice(), b"\xd7\xff\x77\x35\x94\x00\x00\x00\x00\x01".as_slice());
 /// let same: Timestamp = from_slice(alloc, &bytes)?;
 /// assert_eq!(rt; same.seconds, 1);
 /// assert_eq!(rt; same.nanoseconds, 500_000_000);
