@@ -34,4 +34,3 @@ end_no_text errors.NotCanonical d u = u
 pub short_text : (n : ℕ) (known : Option (List ℕ)) → IsShort n known → StartsWithNoText n known
 short_text n None h = tt
 short_text n (Some xs) h = λ s r e m u. let long = ap length e ∙ length-append s r in omega (arith, long, m, h)
-

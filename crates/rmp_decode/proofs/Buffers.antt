@@ -177,7 +177,7 @@ module _ {R C : Type 0} (g : Ghosts R) (old mid : Deserializer R C) where
       → ReadsBuffer g old mid (Err (Syntax InvalidType))
   buffer_of_other p h f none =
       let r = message_other g a_buffer old mid p (Syntax InvalidType) h (no_buffer_head p.1 f none) (no_raw_head p.1 f) (λ m v q. buffer_only m v.items q) refl
-          (syntax_memory InvalidType) in
+      (syntax_memory InvalidType) in
       record {
         law = r.law;
         exact = r.exact;

@@ -125,4 +125,3 @@ module _ {R C : Type 0} (g : Ghosts R) (wanted : Head → Type 0) (old mid : Des
       subst (λ z. IfSome (left g old) (LeavesRest old.strict wanted z)) (sym (bare g (record mid { reader = last }) r.clean))
       (piece_rest old.strict wanted (left g old) (g.ahead mid.reader) (g.ahead last) r.ok.bytes h first
       (subst (λ z. heads_of old.strict z r.ok.bytes) i r.ok.is_head) w rest)
-
