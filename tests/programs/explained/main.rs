@@ -2,7 +2,7 @@
 //!
 //! Of `read HEX` it prints the text of the error that `from_slice_explained` returns for a record, the place and the path of the refused part and the
 //! line, with ` | ` between, or `read`. Of `path HEX` it prints what `path_at` returns for each offset up to the end, after a space each: the
-//! offset where the message begins, where the part begins, and the path, with `:` between. The exit status is 0, or 1 where the input says
+//! offset where the message begins, where the part begins, and the path, with `:` between, or `=` where that is as before. The exit status is 0, or 1 where the input says
 //! nothing that can be done, or input or output failed.
 #![tactic(auto)]
 
@@ -32,9 +32,16 @@ fn read(alloc: Global, bytes: &[u8], said: &mut String) -> Result<(), Fault> {
 
 // The part that each offset is in.
 fn paths(alloc: Global, bytes: &[u8], said: &mut String) -> Result<(), Fault> {
+    let mut before = String::new(alloc);
     for offset in 0..=bytes.len() {
         let path = path_at(alloc, bytes, offset)?;
-        write!(said, " {}:{}:{path}", path.message(), path.place())?;
+        let here = format!(in alloc; "{}:{}:{path}", path.message(), path.place())?;
+        if here.as_str() == before.as_str() {
+            write!(said, " =")?;
+        } else {
+            write!(said, " {here}")?;
+        }
+        before = here;
     }
     Ok(())
 }
