@@ -2,7 +2,8 @@
 //!
 //! Of `read HEX` it prints the text of the error that `from_slice_explained` returns for a record, the place and the path of the refused part and the
 //! line, with ` | ` between, or `read`. Of `path HEX` it prints what `path_at` returns for each offset up to the end, after a space each: the
-//! offset where the message begins, where the part begins, and the path, with `:` between, or `=` where that is as before. The exit status is 0, or 1 where the input says
+//! offset where the message begins, where the part begins, and the path, with `:` between, or `=` where that is as before. Of one of more than
+//! 400 bytes it prints how many, and the last 40. The exit status is 0, or 1 where the input says
 //! nothing that can be done, or input or output failed.
 #![tactic(auto)]
 
@@ -38,6 +39,9 @@ fn paths(alloc: Global, bytes: &[u8], said: &mut String) -> Result<(), Fault> {
         let here = format!(in alloc; "{}:{}:{path}", path.message(), path.place())?;
         if here.as_str() == before.as_str() {
             write!(said, " =")?;
+        } else if here.len() > 400 {
+            let last = here.as_str().get(here.len().saturating_sub(40)..);
+            write!(said, " {}:{}", here.len(), last.unwrap_or(""))?;
         } else {
             write!(said, " {here}")?;
         }
