@@ -3,7 +3,8 @@
 crates/CRATE/must-fail/FUNCTION__WHAT.edit, which the gate tries.
 
 Says which edit or twin can't be applied, since a text that it replaces isn't exactly once in its file, which edit has no such name, which
-doesn't say where it is refused, and which public function of the libraries has none. The status is 0 where nothing is said.
+doesn't say where it is refused, which names a test that isn't there, and which public function of the libraries has none. The status is 0
+where nothing is said.
 
 The gate reads no other lines than 'file:', 'old:' and 'new:', so the rest of an edit of must-fail/ has a '# ' in front.
 
@@ -18,6 +19,7 @@ import sys
 TOP = os.path.join(os.path.dirname(os.path.abspath(__file__)), "..")
 CRATES = os.path.join(TOP, "crates")
 EDITS = os.path.join(TOP, "tests", "edits")
+CALLS = os.path.join(TOP, "tests", "programs", "calls")
 LIBRARIES = "rmp_wire rmp_encode rmp_decode rmp_scan rmp_ends rmp_path rmp_round_trip rmp_types rmp_serde canon_lines".split()
 # Functions whose body is another's, but for a width, a kind or a constant, or a call of it.
 ALIKE = {
@@ -170,8 +172,13 @@ def without_edit(crate, names):
             yield f"{owner}::{name}" if owner else name
 
 
+def written_tests():
+    """The names of the tests of tests/programs/calls."""
+    return {name for path in files(CALLS, ".rs") for name in re.findall(r"#\[test\]\s+fn (\w+)", read(path))}
+
+
 def main():
-    said = []
+    said, written = [], written_tests()
     for crate in sorted(os.listdir(CRATES)):
         names = set()
         of_tests, of_gate = edits_of(crate)
@@ -183,6 +190,7 @@ def main():
             said += [f"{crate}/{name}: {why}" for why in misapplied(crate, pairs(edit))]
             said += [f"{crate}/{name}, its twin: {why}" for why in misapplied(crate, twin(edit))]
             said += [f"{crate}/{name}: its twin is itself" for it in [[*pairs(edit)]] if it == [*twin(edit)]]
+            said += [f"{crate}/{name}: there is no test {it}" for it in tests(edit) if it not in written]
             said += [] if says_where(edit) or edit in of_gate else [f"{crate}/{name}: no line says where it is refused"]
         if crate in LIBRARIES:
             said += [f"{crate}: {name} has no edit" for name in without_edit(crate, names)]

@@ -57,7 +57,8 @@ def in_words(counts):
 
 
 def counted(crates):
-    """Says what the edits of each crate rest on, and which that docs/PROVED.md names rest on nothing; answers the counts of all, and what is wrong."""
+    """Says what the edits of each crate rest on, and answers the counts of all, and what is wrong: an edit that doesn't say where it is refused,
+    and one that docs/PROVED.md names and that rests on nothing."""
     named = {edit for *_, edit in ROW.findall(read(os.path.join(TOP, "docs", "PROVED.md")))}
     total, wrong = collections.Counter(), []
     for crate in crates:
@@ -65,11 +66,9 @@ def counted(crates):
         kinds = {edit: rests(crate, edit) for edit in edits}
         wrong += [f"{crate}: {name_of(edit)} doesn't say where it is refused" for edit in edits_of(crate)[0] if not says_where(edit)]
         bare = [name_of(edit) for edit, kind in kinds.items() if kind == NOTHING]
+        wrong += [f"{crate}: {name} rests on nothing yet, and docs/PROVED.md names it" for name in bare if name in named]
         counts = collections.Counter(kinds.values())
         if edits:
             print(f"{crate}: {in_words(counts)}")
-        for name in bare:
-            if name in named:
-                print(f"{crate}: {name} rests on nothing yet, and docs/PROVED.md names it")
         total += counts
     return total, wrong

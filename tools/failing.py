@@ -10,11 +10,10 @@ import sys
 import tempfile
 
 sys.dont_write_bytecode = True
-from edits import CRATES, TOP, misapplied, pairs, read, tests
+from edits import CALLS, CRATES, misapplied, pairs, read, tests
 from evidence import every_edit, name_of
 from lay_out import lay_out
 
-CALLS = os.path.join(TOP, "tests", "programs", "calls")
 MODULE = re.compile(r"^(?:#\[cfg\(test\)\]\n)?(?:pub )?mod (\w+);\n", re.M)
 FAILED = re.compile(r"^test (?:\w+::)*(\w+) \.\.\. FAILED", re.M)
 PASSED = re.compile(r"^test \S+ \.\.\. ok$", re.M)

@@ -10,8 +10,8 @@ each in the function that is named before them. A function waits for the proofs 
 the next check, without the edits that were. A function that no edit names and that is open by itself is told, and counts as a failure.
 
 Where an edit has a twin, a body of the right meaning, that is made in a copy without the edits, and has to be accepted: then the proof files
-don't refuse the edit for being written otherwise. At the end comes what the edits of each crate rest on (tools/evidence.py), with the names of
-those that docs/PROVED.md names and that rest on nothing yet. One that doesn't say where it is refused is a failure.
+don't refuse the edit for being written otherwise. At the end comes what the edits of each crate rest on (tools/evidence.py). An edit that
+doesn't say where it is refused is a failure, and so is one that docs/PROVED.md names and that rests on nothing yet.
 
 Crates are tried side by side, at most N. The libraries below a crate are taken as the gate built them. With --gate LOG, the gate is
 running, LOG has what it said so far, each line after a number, and a crate's edits are tried as soon as its libraries are proved. With

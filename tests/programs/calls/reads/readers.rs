@@ -4,7 +4,7 @@ use super::rows::{
 };
 use faulty_io::Drip;
 use rmp_decode::{Deserialize, Deserializer, Error, from_read, from_slice, read};
-use rmp_wire::{ByteBuf, Ext, ReadReader};
+use rmp_wire::{AheadSource, ByteBuf, Ext, ReadReader};
 use std::alloc::Global;
 use std::collections::{BTreeMap, BTreeSet, VecDeque};
 use std::io::Cursor;
@@ -134,6 +134,7 @@ fn what_follows_stays_in_the_source(rt: HostRuntime) {
 
 enum Wanted {
     Truth,
+    Number,
     Owned,
     Lent,
     Character,
@@ -146,6 +147,7 @@ fn passed(rt: &impl AllocGlobal, input: &[u8], wanted: Wanted) -> u64 {
     let mut de = over_cursor(rt, input);
     let is_read = match wanted {
         Wanted::Truth => de.deserialize_bool().is_ok(),
+        Wanted::Number => de.deserialize_u32().is_ok(),
         Wanted::Owned => de.deserialize_string().is_ok(),
         Wanted::Lent => de.deserialize_str().is_ok(),
         Wanted::Character => de.deserialize_char().is_ok(),
@@ -158,6 +160,8 @@ fn passed(rt: &impl AllocGlobal, input: &[u8], wanted: Wanted) -> u64 {
 #[test]
 fn a_refusal_leaves_what_follows(rt: HostRuntime) {
     assert_eq!(rt; passed(&rt, &[0xcd, 0x01, 0x00, 0xc3], Wanted::Truth), 3);
+    assert_eq!(rt; passed(&rt, &[0xd0, 0xff, 0xc3], Wanted::Number), 2);
+    assert_eq!(rt; passed(&rt, b"\xa2it\xc3", Wanted::Number), 1);
     assert_eq!(rt; passed(&rt, &[0xa2, 0x61, 0xff, 0xc3], Wanted::Owned), 3);
     assert_eq!(rt; passed(&rt, &[0xc4, 0x01, 0xff, 0xc3], Wanted::Owned), 3);
     assert_eq!(rt; passed(&rt, &[0x92, 0xc3, 0xc3], Wanted::Owned), 1);
@@ -187,6 +191,11 @@ fn no_more_than_the_byte_c1_is_consumed(rt: HostRuntime) {
     assert_eq!(rt; passed(&rt, &[0xc1, 0xc3], Wanted::Truth), 1);
     assert_eq!(rt; passed(&rt, &[0xc1, 0xc3], Wanted::Extension), 1);
     assert_eq!(rt; passed(&rt, &[0x92, 0x01, 0xc1, 0xc3], Wanted::Buffer), 3);
+    // The byte was kept back, and what follows is buffered.
+    let cursor = Cursor::new(b"\xc1\xc3".as_slice());
+    let mut de = Deserializer::new(rt.alloc(), AheadSource::new(rt.alloc(), cursor));
+    assert!(rt; de.next::<bool>().is_err());
+    assert_eq!(rt; de.get_ref().buffer(), b"\xc3".as_slice());
 }
 
 fn queue_of(rt: &impl AllocGlobal, bytes: &[u8]) -> Result<(usize, Option<Option<bool>>), Error> {

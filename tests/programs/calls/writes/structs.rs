@@ -1,7 +1,7 @@
 //! Structs and variants, as lists and with names.
 use super::is_written;
 use rmp_decode::from_slice;
-use rmp_encode::{Eight, Error, One, Serialize, Serializer, to_vec_named};
+use rmp_encode::{Both, Eight, Error, One, Serialize, Serializer, to_vec_named};
 use rmp_wire::config::{BytesMode, SerializerConfig};
 use rmp_wire::{Sink, SliceSink, ValueWriteError};
 use std::test::Fail;
@@ -268,6 +268,19 @@ fn broken_fields(rt: HostRuntime) -> Result<(), Fail> {
         assert!(rt; has_begun(se.serialize_fields("S", &["x"], &elements)) == Some(*has));
         drop(se);
         assert_eq!(rt; room[..size], b"\x81\xa1x\xcd\x01\x2c"[..size]);
+    }
+    let begun = [false, false, true, false, false, true, false, true, true];
+    for (size, has) in begun.iter().enumerate() {
+        let mut room = [0u8; 9];
+        let sink = SliceSink::new(&mut room[..size]);
+        let mut se = Serializer::new(rt.alloc(), sink).with_struct_map();
+        let elements = Both {
+            first: &5u8,
+            second: &300u16,
+        };
+        assert!(rt; has_begun(se.serialize_fields("S", &["x", "y"], &elements)) == Some(*has));
+        drop(se);
+        assert_eq!(rt; room[..size], b"\x82\xa1x\x05\xa1y\xcd\x01\x2c"[..size]);
     }
     let begun = [false, false, true, false, false, true];
     for (size, has) in begun.iter().enumerate() {
