@@ -146,6 +146,8 @@ fn other_messages_are_no_points_in_time(rt: HostRuntime) {
 #[test]
 fn a_point_in_time_is_an_extension(rt: HostRuntime) -> Result<(), Error> {
     let value: Value = from_slice(rt.alloc(), b"\xd6\xff\0\0\0\x01")?;
-    assert!(rt; matches!(value.root().as_ext(), Some((-1, bytes)) if bytes == b"\0\0\0\x01".as_slice()));
+    assert!(rt;
+        matches!(value.root().as_ext(), Some((-1, bytes)) if bytes == b"\0\0\0\x01".as_slice())
+    );
     Ok(())
 }
