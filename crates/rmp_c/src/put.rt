@@ -80,7 +80,8 @@ pub extern "C" fn rmp_put_f64_bits(out: &mut [u8], at: &mut usize, bits: u64) ->
     put_head(out, at, Head::F64Bits(bits))
 }
 
-/// Puts the head of a list of `len` elements, as `rmp_put_nil` puts nil. The elements follow, each by a call of its own.
+/// Puts the head of a list of `len` elements, as `rmp_put_nil` puts nil. The elements follow, each by a
+/// call of its own.
 #[unsafe(no_mangle)]
 pub extern "C" fn rmp_put_array(out: &mut [u8], at: &mut usize, len: u32) -> u32
     ensures written { result ≡ 0 → IsPut (canon_head (Array len)) at.old at.new out.old out.new }
@@ -91,7 +92,8 @@ pub extern "C" fn rmp_put_array(out: &mut [u8], at: &mut usize, len: u32) -> u32
     put_head(out, at, Head::Array(len))
 }
 
-/// Puts the head of a map of `len` pairs, as `rmp_put_nil` puts nil. The pairs follow: each key, and then its value.
+/// Puts the head of a map of `len` pairs, as `rmp_put_nil` puts nil. The pairs follow: each key,
+/// and then its value.
 #[unsafe(no_mangle)]
 pub extern "C" fn rmp_put_map(out: &mut [u8], at: &mut usize, len: u32) -> u32
     ensures written { result ≡ 0 → IsPut (canon_head (Map len)) at.old at.new out.old out.new }
@@ -102,8 +104,8 @@ pub extern "C" fn rmp_put_map(out: &mut [u8], at: &mut usize, len: u32) -> u32
     put_head(out, at, Head::Map(len))
 }
 
-/// Puts a text. It isn't checked that its bytes are UTF-8. The statuses are those of `rmp_put_nil`, and 13 if there are 2^32 bytes or more: then nothing
-/// changes.
+/// Puts a text. It isn't checked that its bytes are UTF-8. The statuses are those of `rmp_put_nil`, and 13 if there are
+/// 2^32 bytes or more: then nothing changes.
 #[unsafe(no_mangle)]
 pub extern "C" fn rmp_put_str(out: &mut [u8], at: &mut usize, payload: &[u8]) -> u32
     ensures written { result ≡ 0 → IsPut (canon (text payload.now)) at.old at.new out.old out.new }
@@ -119,8 +121,8 @@ pub extern "C" fn rmp_put_str(out: &mut [u8], at: &mut usize, payload: &[u8]) ->
     }
 }
 
-/// Puts bytes. The statuses are those of `rmp_put_nil`, and 13 if there are 2^32 bytes or more: then nothing
-/// changes.
+/// Puts bytes. The statuses are those of `rmp_put_nil`, and 13 if there are
+/// 2^32 bytes or more: then nothing changes.
 #[unsafe(no_mangle)]
 pub extern "C" fn rmp_put_bin(out: &mut [u8], at: &mut usize, payload: &[u8]) -> u32
     ensures written { result ≡ 0 → IsPut (canon (bin payload.now)) at.old at.new out.old out.new }
@@ -136,8 +138,8 @@ pub extern "C" fn rmp_put_bin(out: &mut [u8], at: &mut usize, payload: &[u8]) ->
     }
 }
 
-/// Puts an extension: its type and its payload. The statuses are those of `rmp_put_nil`, and 13 if there are 2^32 bytes or more: then nothing
-/// changes.
+/// Puts an extension: its type and its payload. The statuses are those of `rmp_put_nil`, and 13 if there are
+/// 2^32 bytes or more: then nothing changes.
 #[unsafe(no_mangle)]
 pub extern "C" fn rmp_put_ext(out: &mut [u8], at: &mut usize, tag: i8, payload: &[u8]) -> u32
     ensures written { result ≡ 0 → IsPut (canon (extension tag payload.now)) at.old at.new out.old out.new }
