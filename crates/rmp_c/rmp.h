@@ -2,8 +2,10 @@
 #ifndef RMP_H
 #define RMP_H
 
+#include <stdbool.h>
 #include <stddef.h>
 #include <stdint.h>
+#include <string.h>
 
 #ifdef __cplusplus
 extern "C" {
@@ -23,7 +25,8 @@ enum {
     RMP_NO_MEMORY = 9,     /* out of memory */
     RMP_MORE = 10,         /* the message goes on after the piece */
     RMP_TOO_LONG = 11,     /* the message asks for more bytes than the limit */
-    RMP_FAILED = 12        /* an earlier call failed */
+    RMP_FAILED = 12,       /* an earlier call failed */
+    RMP_TOO_LARGE = 13     /* a payload of 2^32 bytes or more */
 };
 
 /* What a status means, as a text for people. */
@@ -43,6 +46,7 @@ static inline const char *rmp_text(uint32_t status)
     case RMP_MORE: return "the message goes on after the piece";
     case RMP_TOO_LONG: return "the message asks for more bytes than the limit";
     case RMP_FAILED: return "an earlier call failed";
+    case RMP_TOO_LARGE: return "a payload of 2^32 bytes or more";
     default: return "no status of rmp.h";
     }
 }
@@ -103,6 +107,40 @@ uint32_t rmp_scan_init(rmp_scanner *scanner, size_t limit);
  * bytes than the limit, which is found before the payload arrives. After either each call is RMP_FAILED until rmp_scan_init.
  * Except for RMP_OK and RMP_RESERVED, `*used` is unchanged. */
 uint32_t rmp_scan(rmp_scanner *scanner, const uint8_t *piece, size_t len, size_t *used);
+
+/* Each rmp_put_ call writes a message, in its canonical encoding, to `out`, a buffer of `room` bytes, at the offset `*at`, and moves `*at`
+ * to its end. RMP_TOO_SHORT: the buffer is unchanged, and `*at` moves to where the message would have ended, at most to SIZE_MAX: after all
+ * the messages it is the length that is needed. */
+uint32_t rmp_put_nil(uint8_t *out, size_t room, size_t *at);
+uint32_t rmp_put_bool(uint8_t *out, size_t room, size_t *at, bool value);
+uint32_t rmp_put_uint(uint8_t *out, size_t room, size_t *at, uint64_t number);
+uint32_t rmp_put_int(uint8_t *out, size_t room, size_t *at, int64_t number);
+uint32_t rmp_put_f32_bits(uint8_t *out, size_t room, size_t *at, uint32_t bits);
+uint32_t rmp_put_f64_bits(uint8_t *out, size_t room, size_t *at, uint64_t bits);
+
+/* The head of a list of `len` elements, which follow, each by a call of its own; of a map of `len` pairs, each a key and then its value. */
+uint32_t rmp_put_array(uint8_t *out, size_t room, size_t *at, uint32_t len);
+uint32_t rmp_put_map(uint8_t *out, size_t room, size_t *at, uint32_t len);
+
+/* A text, which isn't checked to be UTF-8; bytes; an extension. The payload doesn't overlap the buffer. RMP_TOO_LARGE: the payload has
+ * 2^32 bytes or more, and nothing changes. */
+uint32_t rmp_put_str(uint8_t *out, size_t room, size_t *at, const uint8_t *payload, size_t len);
+uint32_t rmp_put_bin(uint8_t *out, size_t room, size_t *at, const uint8_t *payload, size_t len);
+uint32_t rmp_put_ext(uint8_t *out, size_t room, size_t *at, int8_t tag, const uint8_t *payload, size_t len);
+
+static inline uint32_t rmp_put_f32(uint8_t *out, size_t room, size_t *at, float number)
+{
+    uint32_t bits;
+    memcpy(&bits, &number, sizeof bits);
+    return rmp_put_f32_bits(out, room, at, bits);
+}
+
+static inline uint32_t rmp_put_f64(uint8_t *out, size_t room, size_t *at, double number)
+{
+    uint64_t bits;
+    memcpy(&bits, &number, sizeof bits);
+    return rmp_put_f64_bits(out, room, at, bits);
+}
 
 #ifdef __cplusplus
 }

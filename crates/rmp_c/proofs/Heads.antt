@@ -1,12 +1,11 @@
 -- A head and its content at an offset.
 use Rattle.std.specs.Prelude.{◌++◌, ◌<◌, length, drop, take}
-use Rattle.std.proofs.Common.{◌≡◌, ◌∙◌, ◌≤◌, ◌+◌, ◌-◌, ℕ, List, [], ◌∷◌, Option, Some, refl, sym, ap, subst, arith}
+use Rattle.std.proofs.Common.{◌≡◌, ◌∙◌, ◌≤◌, ◌+◌, ◌-◌, ℕ, List, [], ◌∷◌, Some, sym, ap, subst, arith}
 use Rattle.std.proofs.lemmas.List.{length-append, length-take-le, length-drop, take-append-drop}
 use Rattle.std.proofs.Math.Seq.{take-length}
 use Rattle.rmp_wire.specs.declared.head.Head.{Head}
 use Rattle.rmp_wire.specs.declared.marker.Marker.{Marker}
-use Rattle.rmp_wire.specs.declared.marker.Marker.TheVariants.{Reserved}
-use Rattle.rmp_wire.specs.Heads.{IsHead, canon_head}
+use Rattle.rmp_wire.specs.Heads.{IsHead}
 use Rattle.rmp_wire.specs.Reading.{TakesNext}
 use Rattle.rmp_wire.specs.Taking.{byte_of}
 use Rattle.rmp_wire.proofs.Canon.{canon_head_least, head_fits}

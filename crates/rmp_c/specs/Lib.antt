@@ -1,4 +1,6 @@
+pub mod HeadBytes
 pub mod Items
 pub mod Pieces
+pub mod Puts
 pub mod Respelled
 pub mod Statuses

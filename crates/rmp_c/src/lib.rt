@@ -5,5 +5,7 @@
 
 mod canonical;
 mod check;
+mod head;
+mod put;
 mod scan;
 mod walk;

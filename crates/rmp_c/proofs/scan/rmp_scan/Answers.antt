@@ -1,6 +1,5 @@
 -- By the scanner's answer.
-use Rattle.std.proofs.Common.{refl, ap, Ok, Err, arith, rules, ◌<◌, ◌^◌}
-use Rattle.rmp_scan.specs.declared.scanner.Scan.TheVariants.{More}
+use Rattle.std.proofs.Common.{ap, Ok, arith, rules}
 use Rattle.rmp_c.proofs.Pieces.{held, whole_law, more_law, long_law, reserved_law, at_whole, elsewhere, not_more, not_long}
 use Rattle.rmp_c.proofs.scan.rmp_scan.Goals as goal
 
