@@ -4,6 +4,7 @@ ghost use Rattle.rmp_path.specs.Places.{Locates};
 ghost use Rattle.rmp_serde.specs.Paths.{IsPathOf, IsStep, message_of, place_of};
 
 use crate::value::Value;
+use crate::value::text::quoted::write_quoted;
 use rmp_decode::Error;
 use rmp_path::{Location, Turn, locate};
 use std::alloc::{AllocError, Global};
@@ -151,21 +152,4 @@ fn is_plain(text: &str) -> bool {
         && text
             .bytes()
             .all(|b| b.is_ascii_alphanumeric() || b == b'_' || b == b'-')
-}
-
-// Writes a text as a JSON string.
-pub(crate) fn write_quoted<W: fmt::Write>(f: &mut fmt::Formatter<W>, text: &str) -> fmt::Result {
-    f.write_str("\"")?;
-    for c in text.chars() {
-        match c {
-            '"' => f.write_str("\\\"")?,
-            '\\' => f.write_str("\\\\")?,
-            '\n' => f.write_str("\\n")?,
-            '\r' => f.write_str("\\r")?,
-            '\t' => f.write_str("\\t")?,
-            c if c < ' ' => write!(f, "\\u{:04x}", c as u32)?,
-            c => write!(f, "{c}")?,
-        }
-    }
-    f.write_str("\"")
 }

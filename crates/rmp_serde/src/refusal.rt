@@ -9,8 +9,9 @@ ghost use Rattle.rmp_decode.specs.Refusing.{slice_setting};
 ghost use Rattle.rmp_decode.specs.State.{reader_of, refused_levels};
 ghost use Rattle.rmp_serde.specs.Explaining.{error_in, path_in, Explains, IsInside, Refuses};
 
-use crate::path::{Path, path_of, write_quoted};
+use crate::path::{Path, path_of};
 use crate::value::Kind;
+use crate::value::text::quoted::write_quoted;
 use rmp_decode::{Deserialize, Deserializer, Error};
 use rmp_path::{Location, locate};
 use rmp_wire::{Head, Marker, ReadRefReader, next_head};

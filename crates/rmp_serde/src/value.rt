@@ -5,7 +5,7 @@ mod kind;
 mod read;
 mod reference;
 mod round_trip;
-mod text;
+pub(crate) mod text;
 mod write;
 
 ghost use Rattle.std.specs.Prelude.{◌≡◌, ◌≤◌, ◌+◌, length, ◌∷◌};

@@ -1,5 +1,5 @@
 //! A message as text.
-mod quoted;
+pub(crate) mod quoted;
 mod readable;
 
 ghost use Rattle.std.specs.Prelude.{◌≡◌, ◌≤◌, ◌++◌, ◌∷◌, [], length, IfOk, IfSome, OnOk};

@@ -79,7 +79,7 @@ fn write_escaped<W: fmt::Write>(f: &mut fmt::Formatter<W>, text: &str) -> fmt::R
 }
 
 // Writes a text as a JSON string.
-pub(super) fn write_quoted<W: fmt::Write>(f: &mut fmt::Formatter<W>, text: &str) -> fmt::Result
+pub(crate) fn write_quoted<W: fmt::Write>(f: &mut fmt::Formatter<W>, text: &str) -> fmt::Result
     ensures writes { WritesOnOk W.write_str_gives f.old result (quoted text.now) f.new }
 {
     f.write_str("\"")?;
