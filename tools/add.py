@@ -3,9 +3,10 @@
 
     tools/add.py REPOSITORY
 
-To REPOSITORY/crates go rmp_serde and the crates below it, without their edits and what was built, and to REPOSITORY/tools goes derive.py
-with what it imports. CHANGELOG.md goes to crates/rmp_serde; where a newer one takes its place, its new entries are printed. crates.txt gets the lines of these crates, and .gitignore the line `out/`. The file rmp_serde.lock has the commit and
-the checksum of each file that was copied. No file is replaced that isn't in it, or that was changed since.
+To REPOSITORY/crates go rmp_serde, rmp_recursive and the crates below them, without their edits and what was built, and to REPOSITORY/tools
+goes derive.py with what it imports. CHANGELOG.md goes to crates/rmp_serde; where a newer one takes its place, its new entries are printed.
+crates.txt gets the lines of these crates, and .gitignore the line `out/`. The file rmp_serde.lock has the commit and the checksum of each file
+that was copied. No file is replaced that isn't in it, or that was changed since.
 """
 from __future__ import annotations
 
@@ -167,7 +168,7 @@ def add(repository: str) -> None:
     if os.path.isfile(os.path.join(repository, "crates.txt")) and not os.path.isdir(os.path.join(repository, "crates")):
         stop(f"{repository} has no folder crates for the crates of crates.txt: move them there first")
     every = listed(os.path.join(TOP, "crates.txt"))
-    libraries = below(["rmp_serde"], every)
+    libraries = below(["rmp_serde", "rmp_recursive"], every)
     files = files_of(libraries)
     wanted = {path: checksum(file) for path, file in files.items()}
     copies = Copies(repository)
@@ -185,6 +186,7 @@ def add(repository: str) -> None:
         print(f"added {', '.join(libraries)} {version} and tools/derive.py to {repository}: {count(len(wanted), 'file')} of commit {at}")
         print("".join(f"{line}\n" for line in said if line.startswith("changed")), end="")
         print("A crate that depends on them has a line in crates.txt: NAME: rmp_serde rmp_encode rmp_decode rmp_wire")
+        print("Where a type of it contains itself, the line names rmp_recursive, too.")
     elif said:
         print("\n".join(said))
         print(f"{count(len(said), 'change')}: from commit {copies.commit} to {at}")

@@ -7,45 +7,28 @@ from __future__ import annotations
 import contextlib
 import dataclasses
 import re
-from typing import Iterator, Optional
+from typing import TYPE_CHECKING, Iterator, Optional
 
 import renaming
-from defaults import Default, NoDefault, default_of
-from shared import KINDS, MOST
+from defaults import Default, Known, NoDefault, default_of
+from field_types import BROUGHT, Alias, Refused, Scope, aliases_of, closing, depth_at, identifiers, laid_out, split, with_aliases
+from shared import KINDS, variants_as
+from uses import Use, constants_of, number_of, uses_of
 
-# Types that are named without a `use`, and the words of types that have a meaning of their own.
-PRELUDE = set("String Vec Option Box".split())
-PLAIN = set("u8 u16 u32 u64 usize i8 i16 i32 i64 isize u128 i128 bool char str Self".split())
-# Types of Rust that can't be a field's, and what to take in their place.
-INSTEAD = {"f32": "F32Bits", "f64": "F64Bits", "str": "String"}
-# The same of types of std, where the crate has none of the name.
-INSTEAD_OF_STD = {
-    "HashMap": "BTreeMap, whose keys are written in order",
-    "HashSet": "BTreeSet, whose elements are written in order",
-    "BinaryHeap": "Vec",
-    "LinkedList": "Vec or VecDeque",
-    "Rc": "Box, or the value itself",
-    "Arc": "Box, or the value itself",
-    "Cell": "the value itself",
-    "RefCell": "the value itself",
-    "Mutex": "the value itself",
-    "Cow": "String, or &'a str where the type borrows",
-    "Duration": "(u64, u32), its seconds and nanoseconds",
-    "SystemTime": "(u64, u32), the seconds and nanoseconds since 1970",
-    "Instant": "(u64, u32), seconds and nanoseconds since a time of your own",
-    "PathBuf": "String",
-    "OsString": "String",
-    "PhantomData": "() as a field's type, or none",
-}
+if TYPE_CHECKING:
+    from modules import Module
+
 # Names that no field, variant or type may have: a word of declarations, and two that a proof would take for tactics.
 WORDS = {"deriving", "ground", "assumption"}
 # Words of proofs that are names in a declaration.
-QUOTED = set("data record module package open unfoldable abbrev axiom unfold unfolding ruleset mutual infix infixl infixr elim Type coe fcoe tcoe hcom com".split())
+QUOTED = set("data record module package open unfoldable abbrev axiom unfold unfolding ruleset mutual infix infixl infixr elim Type".split())
+QUOTED |= set("coe fcoe tcoe hcom com".split())
 ITEM = re.compile(r"((?:^[ \t]*#\[[^\]]*\]\s*)*)^([ \t]*)(?:pub(?:\([^)]*\))? )?(struct|enum) (\w+)", re.M)
-ALIAS = re.compile(r"^(?:pub(?:\([^)]*\))? )?type (\w+)\s*=\s*([^;]*);", re.M)
 # What the text of a file is made of where a comment may begin: texts, characters, and comments.
 TOKEN = re.compile(r'"(?:\\.|[^"\\])*"|\'(?:\\[^\']*|[^\\\'])\'|//[^\n]*|/\*', re.S)
 NOTE = re.compile(r"//\s*derive:\s*(.*)")
+# The type parameters of the functions and implementations that are written.
+PARAMETERS = {"C", "R", "W"}
 # How many fields a struct has at most, without names and with them, and how many a variant.
 MOST_UNNAMED = 16
 MOST_NAMED = 32
@@ -56,14 +39,6 @@ MOST_IN_TUPLE = len(KINDS)
 LEAST_FLAT, MOST_FLAT = 2, 12
 
 
-class Refused(Exception):
-    """Why a declaration can't be derived, and the line of the file that says it, where that is known."""
-
-    def __init__(self, why: str, line: Optional[int] = None) -> None:
-        super().__init__(why)
-        self.line = line
-
-
 @dataclasses.dataclass(repr=False)
 class Field:
     """A field: its name, or its place in a tuple, its type, the name that is written, and its default where it is missing."""
@@ -72,13 +47,15 @@ class Field:
     kind: str
     key: str = ""
     default: Optional[Default] = None
+    # whether it is neither written nor read, and has its default after each read
+    is_skipped: bool = False
 
     def __post_init__(self) -> None:
         self.key = self.key or self.name
 
     def __repr__(self) -> str:
         default = f", default={self.default!r}" if self.default else ""
-        return f"Field(name={self.name!r}, kind={self.kind!r}, key={self.key!r}{default})"
+        return f"Field(name={self.name!r}, kind={self.kind!r}, key={self.key!r}{default}{', skipped' * self.is_skipped})"
 
     def read_as(self) -> str:
         """The type that it is read as."""
@@ -87,15 +64,25 @@ class Field:
 
 @dataclasses.dataclass
 class Shape:
-    """What a struct or a variant holds. `kind` is unit, newtype, tuple or named, and `key` the name that is written."""
+    """What a struct or a variant holds. `kind` is unit, newtype, tuple or named, and `key` the name that is written. What is neither written nor
+    read is apart."""
 
     name: str
     kind: str
     fields: list[Field]
     key: str = ""
+    skipped: list[Field] = dataclasses.field(default_factory=list)
 
     def __post_init__(self) -> None:
         self.key = self.key or self.name
+
+    def __repr__(self) -> str:
+        skipped = f", skipped={self.skipped!r}" if self.skipped else ""
+        return f"Shape(name={self.name!r}, kind={self.kind!r}, fields={self.fields!r}, key={self.key!r}{skipped})"
+
+    def copies(self) -> list[Field]:
+        """The fields whose default is a copy of a text, for which memory may be short."""
+        return [field for field in self.fields if field.default and field.default.is_copy]
 
 
 @dataclasses.dataclass
@@ -140,25 +127,81 @@ class Declared:
 
     def constants(self) -> set[str]:
         """The constants of the file that are defaults."""
-        return {field.default.constant for shape in self.shapes() for field in shape.fields if field.default and field.default.constant}
+        return {name for default in self.defaults() for name in default.constants}
+
+    def enums(self) -> set[str]:
+        """The enums of the file of which variants are defaults."""
+        return {name for default in self.defaults() for name in default.enums}
+
+    def defaults(self) -> list[Default]:
+        return [field.default for shape in self.shapes() for field in [*shape.fields, *shape.skipped] if field.default]
 
 
 # ---- the text of a file
 
 
 class Source:
-    """A file's text without its comments, and the notes that `// derive:` lines have, by their places."""
+    """A file's text without its comments, and the notes that `// derive:` lines have, by their places. `around` is the module that the file
+    is, where what it brings in is known."""
 
-    def __init__(self, text: str) -> None:
+    def __init__(self, text: str, around: Optional[Module] = None) -> None:
+        self.around = around
         self.notes: dict[int, str] = {}
         self.used: set[int] = set()
         self.blocks: list[int] = []
         self.text = self.without_comments(text)
-        self.aliases = {name: laid_out(kind) for name, kind in ALIAS.findall(self.text)}
-        # the names of the crate's own types
-        self.own = set(re.findall(r"\b(?:struct|enum|type) (\w+)", self.text))
-        for path in re.findall(r"^(?:pub(?:\([^)]*\))? )?use (?:crate|super|self)::([^;]*);", self.text, re.M):
-            self.own |= set(re.findall(r"\w+", path))
+        # the names of the file's own types
+        self.own = set(re.findall(r"\b(?:struct|enum) (\w+)", self.text))
+        self.constants = constants_of(self.text)
+        self.uses = around.uses(self.text) if around else dict(uses_of(self.text))
+        self.aliases = self.all_aliases()
+
+    def all_aliases(self) -> dict[str, Alias]:
+        """Each name of another type: by a `type`, or by a `use` that gives a type of std or of the library a name of its own."""
+        found = dict(aliases_of(self.text))
+        for name, use in list(self.uses.items()):
+            if name != use.name and use.is_known():
+                found[name] = Alias([], use.name)
+                self.uses.setdefault(use.name, use)
+            elif self.around and name not in self.own:
+                found |= self.around.alias(name, use)
+        return found
+
+    def scope(self, name: str, lifetime: Optional[str], parameters: list[tuple[str, str]]) -> Scope:
+        """What the declaration of this name may name."""
+        return Scope(name, lifetime, [it for it, _ in parameters], self)
+
+    def refusal(self, use: Use) -> str:
+        """Why what a `use` brings in is no type that is written and read, or nothing."""
+        return self.around.refusal(use) if self.around else ""
+
+    def place_of(self, name: str) -> str:
+        """The module that a type of std or of the library is brought in from."""
+        place = BROUGHT[name]
+        return "rmp_serde" if place == "rmp_wire" and self.around and "rmp_serde" in self.around.libraries() else place
+
+    def defaults(self) -> Known:
+        """What a default may name: the constants of the file, with their types, and its enums, with their variants without content."""
+        kinds = {name: self.with_lengths(with_aliases(laid_out(it.kind), self.aliases)) for name, it in self.constants.items()}
+        enums = {}
+        for found in re.finditer(r"^(?:pub(?:\([^)]*\))? )?enum (\w+)\s*\{", self.text, re.M):
+            body = self.text[found.end() : closing(self.text, found.end() - 1) - 1]
+            enums[found[1]] = variants_as(found[1]), [part for part in split(body) if part.isidentifier()]
+        return Known(kinds, enums)
+
+    def number(self, name: str) -> Optional[int]:
+        """The number that a constant is."""
+        if name in self.constants:
+            return number_of(self.constants[name].value, self.number)
+        return self.around.number(self.uses[name]) if self.around and name in self.uses else None
+
+    def with_lengths(self, kind: str) -> str:
+        """The type with the length of each array as a number, where it is known."""
+        def length(found: re.Match) -> str:
+            known = number_of(found[1], self.number)
+            return f"; {found[1] if known is None else known}]"
+
+        return re.sub(r"; ([^;\[\]]*)\]", length, kind)
 
     def without_comments(self, text: str) -> str:
         """The text with a space for each sign of a comment, so that each place is the same."""
@@ -214,9 +257,8 @@ class Span:
         """The parts of a list, at the commas outside of brackets, each with what was above it."""
         found, depth, start = [], 0, self.start
         for place in range(self.start, self.end):
-            sign = self.source.text[place]
-            depth += (sign in "<([{") - (sign in ">)]}")
-            if sign == "," and not depth:
+            depth += depth_at(self.source.text, place)
+            if self.source.text[place] == "," and not depth:
                 found.append(Span(self.source, start, place))
                 start = place + 1
         last = Span(self.source, start, self.end)
@@ -244,112 +286,18 @@ def lines(line: int, name: str = "") -> Iterator[None]:
         raise Refused(f"{name}: {why}" if name else str(why), why.line or line) from why
 
 
-def split(text: str) -> list[str]:
-    """The parts of a list, at the commas outside of brackets."""
-    parts, depth, word = [], 0, ""
-    for sign in text + ",":
-        depth += (sign in "<([{") - (sign in ">)]}")
-        if sign == "," and not depth:
-            parts.append(word.strip())
-            word = ""
-        else:
-            word += sign
-    return parts[:-1] if parts and not parts[-1] else parts
-
-
-def closing(text: str, at: int) -> int:
-    """The place after the bracket that closes the one at this place."""
-    depth = 0
-    for place in range(at, len(text)):
-        depth += (text[place] in "<([{") - (text[place] in ">)]}")
-        if not depth:
-            return place + 1
-    raise Refused("a bracket isn't closed")
-
-
-def identifiers(kind: str) -> list[str]:
-    return re.findall(r"[A-Za-z_]\w*", kind)
-
-
-# ---- types
-
-
-def laid_out(kind: str) -> str:
-    """A type as `rt fmt` lays it out."""
-    kind = re.sub(r"&\s*('\w+)\s+", r"&\1|", kind)
-    kind = re.sub(r"\s+", "", kind).replace("|", " ")
-    kind = re.sub(r"([,;])", r"\1 ", kind)
-    return re.sub(r", ([>\])])", r"\1", kind) if not re.fullmatch(r"\([^,]*, \)", kind) else kind.replace(", )", ",)")
-
-
-def check_tuple(kind: str, lifetime: Optional[str]) -> None:
-    parts = split(kind[1:-1])
-    if len(parts) > MOST:
-        raise Refused(f"a tuple has up to {MOST} elements, and {kind} has {len(parts)}")
-    for part in parts:
-        check_type(part, lifetime)
-
-
-def check_borrowed(kind: str, lifetime: Optional[str]) -> None:
-    """Refuses a reference, but to a text or to bytes that are lent for the type's own lifetime."""
-    if not re.fullmatch(r"&('\w+ )?(str|\[u8\])", kind):
-        raise Refused(f"{kind} can't be read: what is lent are texts and bytes, as &'a str, &'a [u8] and Bytes<'a>")
-    if lifetime is None or not kind.startswith(f"&{lifetime} "):
-        raise Refused(f"{kind} is lent for a lifetime of the type: declare it, and write it, as &'a str")
-
-
-def check_type(kind: str, lifetime: Optional[str] = None) -> None:
-    """Refuses a type that has no implementation to name, where what is borrowed is lent for this lifetime."""
-    if kind.startswith("&"):
-        return check_borrowed(kind, lifetime)
-    if kind.startswith("'"):
-        if kind != lifetime:
-            raise Refused(f"{kind} isn't declared by the type")
-        return None
-    if "::" in kind:
-        raise Refused(f"bring {kind} in by a `use`, and name it alone")
-    if kind.startswith("(") and kind.endswith(")"):
-        return check_tuple(kind, lifetime)
-    if kind.startswith("[") and kind.endswith("]"):
-        item, _, count = kind[1:-1].rpartition(";")
-        if not item:
-            raise Refused(f"{kind} has no length: write a Vec")
-        return check_type(item.strip(), lifetime)
-    found = re.fullmatch(r"([A-Za-z_]\w*)(?:<(.*)>)?", kind)
-    if not found:
-        raise Refused(f"{kind} is no type that can be derived")
-    if found[1] in INSTEAD:
-        raise Refused(f"in place of {found[1]} write {INSTEAD[found[1]]}")
-    for part in split(found[2] or ""):
-        check_type(part, lifetime)
-    return None
-
-
-def check_std(kind: str, own: set[str]) -> None:
-    """Refuses a type of std that has no implementation, where the name is none of the crate's own."""
-    for word in identifiers(kind):
-        if word in INSTEAD_OF_STD and word not in own:
-            raise Refused(f"in place of {word} write {INSTEAD_OF_STD[word]}")
-
-
 def declared_at(text: str, name: str) -> int:
     found = re.search(rf"\b(?:struct|enum) {name}\b", text)
     return text.count("\n", 0, found.start()) + 1
 
 
-def with_aliases(kind: str, aliases: dict[str, str]) -> str:
-    """The type with each alias of the file written out."""
-    for _ in range(len(aliases)):
-        kind = re.sub(r"(?<!')\b[A-Za-z_]\w*", lambda word: aliases.get(word[0], word[0]), kind)
-    return kind
-
-
-def typed(span: Span, lifetime: Optional[str]) -> str:
+def typed(span: Span, scope: Scope) -> str:
     if not str(span).strip():
         raise Refused("a field has no type")
-    kind = with_aliases(laid_out(str(span)), span.source.aliases)
-    check_std(kind, span.source.own)
-    check_type(kind, lifetime)
+    source = span.source
+    kind = re.sub(r"\bSelf\b", scope.itself(), with_aliases(laid_out(str(span)), source.aliases))
+    kind = source.with_lengths(kind)
+    scope.check(kind)
     return kind
 
 
@@ -360,7 +308,8 @@ def check_word(what: str, name: str) -> None:
     if not name.isascii():
         raise Refused(f"{what} {name} is not ASCII, and such a name is not in the language")
     if name in WORDS or name.startswith("r#"):
-        raise Refused(f"{what} {name} is a word of the language: give it another name")
+        rename = f', and rename it: // derive: rename = "{name.removeprefix("r#")}"' if what != "the type" else ""
+        raise Refused(f"{what} {name} is a word of the language: give it another name{rename}")
 
 
 def quoted(name: str) -> str:
@@ -396,7 +345,7 @@ def noted(span: Span, what: str) -> tuple[Span, renaming.Notes]:
     return bare, span.notes(bare.start)
 
 
-def named_fields(body: Span, lifetime: Optional[str], rule: Optional[str]) -> list[Field]:
+def named_fields(body: Span, scope: Scope, rule: Optional[str]) -> list[Field]:
     fields = []
     for part in body.parts():
         bare, notes = noted(part, "a field")
@@ -406,36 +355,42 @@ def named_fields(body: Span, lifetime: Optional[str], rule: Optional[str]) -> li
             if not colon or not re.fullmatch(r"(r#)?[^\W\d]\w*", name.strip()):
                 raise Refused(f"{bare} is no field")
             check_word("the field", name.strip())
-            notes.only("rename", "default")
+            notes.only("rename", "default", "skip")
             key = notes.rename or renaming.field(rule, name.strip())
-            kind = typed(bare.after(len(name) + 1), lifetime)
-            default = None if notes.default is None else default_of(kind, notes.default)
-            fields.append(Field(name.strip(), kind, key, default))
+            kind = typed(bare.after(len(name) + 1), scope)
+            is_skipped = bool(notes.skip)
+            has_default = is_skipped or notes.default is not None
+            default = default_of(kind, notes.default or "", bare.source.defaults(), is_skipped) if has_default else None
+            fields.append(Field(name.strip(), kind, key, default, is_skipped))
     check_names("the field", fields)
     return fields
 
 
-def tuple_fields(body: Span, lifetime: Optional[str]) -> list[Field]:
+def tuple_fields(body: Span, scope: Scope) -> list[Field]:
     fields = []
     for at, part in enumerate(body.parts()):
         bare, notes = noted(part, "a field")
         with lines(bare.line()):
             notes.only()
-            fields.append(Field(str(at), typed(without_visibility(bare), lifetime)))
+            fields.append(Field(str(at), typed(without_visibility(bare), scope)))
     return fields
 
 
-def shape_of(name: str, body: Span, lifetime: Optional[str], rule: Optional[str], key: str = "") -> Shape:
+def shape_of(name: str, body: Span, scope: Scope, rule: Optional[str], key: str = "") -> Shape:
     """What is written after a struct's or a variant's name, whose fields are renamed by this rule."""
     body = body.strip()
     text = str(body)
     if not text:
         return Shape(name, "unit", [], key)
     if text.startswith("{"):
-        return Shape(name, "named", named_fields(body.inside(), lifetime, rule), key)
+        fields = named_fields(body.inside(), scope, rule)
+        written, skipped = ([field for field in fields if field.is_skipped is apart] for apart in (False, True))
+        if skipped and not written:
+            raise Refused(f"each field of {name} is skipped: write it without fields")
+        return Shape(name, "named", written, key, skipped)
     if not text.startswith("("):
         raise Refused(f"{name} {text} can't be derived")
-    fields = tuple_fields(Span(body.source, body.start + 1, body.start + closing(text, 0) - 1), lifetime)
+    fields = tuple_fields(Span(body.source, body.start + 1, body.start + closing(text, 0) - 1), scope)
     if not fields:
         raise Refused(f"{name}() has no fields: write {name}, or an implementation by hand")
     return Shape(name, "newtype" if len(fields) == 1 else "tuple", fields, key)
@@ -457,7 +412,7 @@ def parameters_of(text: str) -> tuple[Optional[str], list[tuple[str, str]]]:
     return lifetime, found
 
 
-def variants_of(body: Span, lifetime: Optional[str], notes: renaming.Notes) -> list[Shape]:
+def variants_of(body: Span, scope: Scope, notes: renaming.Notes) -> list[Shape]:
     variants = []
     for part in body.parts():
         bare, own = noted(part, "a variant")
@@ -470,7 +425,7 @@ def variants_of(body: Span, lifetime: Optional[str], notes: renaming.Notes) -> l
             check_word("the variant", found[0])
             own.only("rename", "rename_all")
             key = own.rename or renaming.variant(notes.rename_all, found[0])
-            variants.append(shape_of(found[0], bare.after(found.end()), lifetime, own.rename_all or notes.rename_all_fields, key))
+            variants.append(shape_of(found[0], bare.after(found.end()), scope, own.rename_all or notes.rename_all_fields, key))
             if own.rename_all and variants[-1].kind != "named":
                 raise Refused(f"{found[0]} has no fields with names to rename")
     if not variants:
@@ -526,12 +481,20 @@ def declared(source: Source, word: str, name: str, at: int, notes: renaming.Note
     if text.startswith("where", at):
         raise Refused("a `where` isn't read: write the bounds at the parameters")
     end = at if text[at] == ";" else closing(text, at)
+    taken = next((it for it in (name, *(parameter for parameter, _ in parameters)) if it in PARAMETERS), None)
+    if taken:
+        raise Refused(f"{taken} is a type parameter of what is written: give it another name")
+    scope = source.scope(name, lifetime, parameters)
     if word == "enum":
         notes.only("rename_all", "rename_all_fields", "round_trip")
-        found = Declared(name, parameters, variants=variants_of(Span(source, at + 1, end - 1), lifetime, notes), lifetime=lifetime)
+        found = Declared(name, parameters, variants=variants_of(Span(source, at + 1, end - 1), scope, notes), lifetime=lifetime)
+        if any(shape.copies() for shape in found.variants):
+            raise Refused("a text is no default in a variant: hold a struct there, of which a field has that default")
+        if any(shape.skipped for shape in found.variants):
+            raise Refused("a field of a variant isn't skipped: hold a struct there, of which a field is")
     else:
         notes.only("rename_all", "round_trip")
-        found = Declared(name, parameters, shape=shape_of(name, Span(source, at, end), lifetime, notes.rename_all), lifetime=lifetime)
+        found = Declared(name, parameters, shape=shape_of(name, Span(source, at, end), scope, notes.rename_all), lifetime=lifetime)
         if notes.rename_all and found.shape.kind != "named":
             raise Refused("it has no fields with names to rename")
     if lifetime and not any(re.search(rf"{lifetime}\b", kind) for kind in found.kinds()):
@@ -558,6 +521,14 @@ def check_recursion(types: dict[str, Declared], text: str) -> None:
             if word not in seen:
                 seen.add(word)
                 todo += inner[word]
+
+
+def check_skipped(types: dict[str, Declared], text: str) -> None:
+    """Refuses a type that leads back to itself where it, or a type of the file that it names, has a field that is skipped."""
+    for name, of in types.items():
+        named = {name, *(word for kind in of.kinds() for word in identifiers(kind))} & set(types)
+        if of.leads_back() and any(shape.skipped for word in named for shape in types[word].shapes()):
+            raise Refused(f"{name}: it leads back to itself, and no field of such a type is skipped", declared_at(text, name))
 
 
 def enclosing(text: str, place: int) -> str:
@@ -590,9 +561,29 @@ def notes_above(source: Source, start: int, until: int) -> Span:
     return Span(source, start, until)
 
 
-def read(text: str) -> dict[str, Declared]:
-    """Each type that a file declares, by its name."""
-    source = Source(text)
+# Attributes that say whether there is a type, and traits that this tool implements.
+BUILDS = re.compile(r"#\[\s*cfg(_attr)?\b[^\]]*\]")
+BY_SERDE = re.compile(r"\bderive\([^)]*\b(Serialize|Deserialize)\b")
+
+
+def check_attributes(source: Source, attributes: str, start: int) -> None:
+    """Refuses what the attributes of a type, which begin at this place, may not be."""
+    if "#[serde(" in attributes:
+        serde = re.search(r"#\[serde\(.*?\)\]", attributes, re.S)
+        raise Refused(renaming.in_place_of(serde[0], "a type"), source.line(start + serde.start()))
+    by_serde = BY_SERDE.search(attributes)
+    if by_serde:
+        raise Refused(f"take {by_serde[1]} out of the derive: this tool writes it", source.line(start + by_serde.start()))
+    builds = BUILDS.search(attributes)
+    if builds:
+        raise Refused(renaming.in_place_of(builds[0], "a type"), source.line(start + builds.start()))
+    if not re.search(r"derive\([^)]*\bDrop\b", attributes):
+        raise Refused("what is read has to be let go: write #[derive(Drop)]")
+
+
+def read(text: str, around: Optional[Module] = None) -> dict[str, Declared]:
+    """Each type that a file declares, by its name, where the file is this module."""
+    source = Source(text, around)
     types = {}
     for found in ITEM.finditer(source.text):
         attributes, _, word, name = found.groups()
@@ -602,16 +593,16 @@ def read(text: str) -> dict[str, Declared]:
             check_word("the type", name)
             if name in types:
                 raise Refused("it is declared twice")
-            if "serde(" in attributes:
-                serde = re.search(r"#\[serde\(.*?\)\]", attributes, re.S)
-                raise Refused(renaming.in_place_of(serde[0], "a type"), source.line(found.start(1) + serde.start()))
-            if not re.search(r"derive\([^)]*\bDrop\b", attributes):
-                raise Refused("what is read has to be let go: write #[derive(Drop)]")
+            check_attributes(source, attributes, found.start(1))
             notes = notes_above(source, found.start(1), found.start(3)).notes(found.start(3))
             types[name] = declared(source, word, name, found.end(), notes)
     for place in source.blocks:
         raise Refused("a block comment isn't read: begin each of its lines with //", source.line(place))
     for place in sorted(set(source.notes) - source.used):
         raise Refused("a `derive:` line is above a type, a variant or a field", source.line(place))
+    serde = re.search(r"^use serde(_derive)?\b[^;]*;", source.text, re.M)
+    if serde:
+        raise Refused(f"take out `{serde[0]}`: this tool writes what it brings in", source.line(serde.start()))
     check_recursion(types, source.text)
+    check_skipped(types, source.text)
     return types

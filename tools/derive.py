@@ -2,16 +2,17 @@
 """Writes `Serialize`, `Deserialize`, `RoundTrip` and `EndsInside` for the structs and enums of a file, and the proofs.
 
     tools/derive.py CRATE FILE..            writes them; CRATE is the crate's folder, and FILE a path below its src/
-    tools/derive.py --check CRATE FILE..    ends with 1, and names the types that changed since they were derived
+    tools/derive.py --check CRATE FILE..    ends with 1, and names the types that changed since they were derived; without a file, of all
+    tools/derive.py --prove CRATE           the same of all files, and where no type changed, `rt check` in the crate
 
 The file declares its types as in Rust, each with `#[derive(Drop)]`, and has a line `mod derived;`. For src/pets.rt the
 implementations go to src/pets/derived.rt, and the proofs below proofs/pets/derived/, laid out; `rt check` in the crate is all that
-follows. The crate depends on rmp_encode, rmp_decode and rmp_wire, in crates.txt.
+follows. The crate depends on rmp_encode, rmp_decode and rmp_wire, in crates.txt, and on rmp_recursive, where a type contains itself.
 
 Structs with names, tuple structs, newtypes, structs without fields, and enums with variants of each kind are derived, with type
 parameters or without, and with a lifetime where they borrow texts or bytes of what they are read from. The type of a field is any
-that has both traits, also one of the file's own; an `Option` may be missing from a map. A type may contain itself: an enum each
-of whose variants holds one value or none, and a struct with names: see derived_recursive.py.
+that has both traits, also one of the file's own; an `Option` may be missing from a map. A type may contain itself: an enum, and a
+struct with names: see derived_recursive.py.
 
 A comment line above a field, a variant or a type says what an attribute of serde would say:
 
@@ -19,7 +20,8 @@ A comment line above a field, a variant or a type says what an attribute of serd
     // derive: rename_all = "camelCase"       above a struct, an enum, or a variant with fields: the rule for the names in it
     // derive: rename_all_fields = "camelCase"    above an enum: the rule for the fields of its variants
     // derive: default                        above a field with a name: a map may be without it, and it is empty, 0 or false then
-    // derive: default = LIMIT                the same: it is this constant of the file, number, character or truth value then
+    // derive: default = LIMIT                the same: it is this constant of the file, number, text or other value then
+    // derive: skip                           above a field of a struct with names: it is neither written nor read, and has its default then
     // derive: round_trip                     above a type, of which a trait is written by hand: `RoundTrip` is derived all the same
 
 The rules are those of serde. What can't be derived is refused, and the message says why, with the line. A trait that the file itself
@@ -36,13 +38,15 @@ from __future__ import annotations
 import dataclasses
 import os
 import re
+import signal
+import subprocess
 import sys
-from typing import Iterator
+from typing import Callable, Iterator, NoReturn
 
 sys.dont_write_bytecode = True
 import derived_recursive as recursive
 import halves
-from declarations import PLAIN, PRELUDE, Declared, Refused, identifiers, is_flat, is_long
+from declarations import Declared, Refused, identifiers, is_flat, is_long
 from derived_ends import LEADS_BACK
 from derived_ends import LEMMAS as ENDS
 from derived_ends import implementation as ends
@@ -52,8 +56,9 @@ from derived_rounds import implementations as rounds
 from derived_terms import GHOST, GROUP, MOST_IN_TUPLES, Words, alias, all_elements, apart, bound_name, data_of, elements_of
 from derived_terms import member_of_reading, member_of_refusing, members_of_writing, memory_of, nested, place_of, refused_of
 from derived_terms import then_bound, then_of
+from field_types import PLAIN, PRELUDE
 from imports import imports
-from modules import Files, Module, stale, sums_lines
+from modules import Files, Module, derived_files, stale, sums_lines
 from shared import MOST, texts
 
 PLACES = halves.FIELDS
@@ -103,6 +108,7 @@ def made_of(path, shape):
     if shape.fields[0].name == "0":
         return f"{path}({', '.join(names)})"
     fields = [name if name == field.name else f"{field.name}: {name}" for field, name in zip(shape.fields, names)]
+    fields += [f"{field.name}: {field.default.made}" for field in shape.skipped]
     return f"{path} {{ {', '.join(fields)} }}"
 
 
@@ -219,6 +225,27 @@ def writing_differ(of, at, shape):
     ]
 
 
+def filled(name, default):
+    """How a default is put in the place of what was read, where a map had none."""
+    if not default.is_copy:
+        return f"let {name} = {name}.value.unwrap_or({default.made});"
+    memory = "return Err(de.refuse(rmp_decode::Error::OutOfMemory))"
+    return f"let {name} = match text_or(de.alloc(), {name}.value, {default.made}) {{ Ok({name}) => {name}, Err(_) => {memory}, }};"
+
+
+# What fills in a text.
+TEXT_OR = """// The text that was read, or a copy of this one.
+fn text_or(alloc: std::alloc::Global, read: Option<String>, text: &str) -> Result<String, std::alloc::AllocError>
+    ensures { IfOk result (λ v. MatchOption read (string_bytes v ≡ text.now) (λ x. v ≡ x)) }
+{
+    match read {
+        Some(found) => Ok(found),
+        None => String::from_str(alloc, text),
+    }
+}
+"""
+
+
 def taken_differ(shape):
     """How the parts that were read get the fields' names.
 
@@ -228,7 +255,7 @@ def taken_differ(shape):
     names = bound_names(shape)
     if shape.kind == "tuple" and not is_long(shape):
         return [f"let ({', '.join(names)}) = parts;"]
-    made = [f"let {name} = {name}.value.unwrap_or({field.default.made});" for name, field in zip(names, shape.fields) if field.default]
+    made = [filled(name, field.default) for name, field in zip(names, shape.fields) if field.default]
     lines, whole = [], "parts"
     while len(shape.fields) > MOST_IN_TUPLES and then_of(len(names)):
         size = then_of(len(names))
@@ -375,8 +402,10 @@ def code_line(module, names):
 def named_types(types):
     """The types that are brought in from the file, its own and others."""
     words = {word for of in types for kind in of.kinds() for word in identifiers(kind)}
+    skipped = [field for of in types for shape in of.shapes() for field in shape.skipped]
+    words |= {word for field in skipped for word in identifiers(field.kind) if word in identifiers(field.default.made)}
     own = {name for of in types for name, _ in of.parameters}
-    capital = {word for word in words if word[0].isupper() and not word.isupper()}
+    capital = {word for word in words if word[0].isupper()}
     return sorted(capital.union({of.name for of in types}, *(of.constants() for of in types)) - PRELUDE - PLAIN - own)
 
 
@@ -425,6 +454,7 @@ def implementations(module: Module, wanted: list[Own]) -> str:
             tell_missing(module, own, "EndsInside", str(unknown))
     for count in more_parts(wanted):
         items += handing_over(count)
+    items += [TEXT_OR] * any(shape.copies() for own in wanted for shape in own.of.shapes())
     text = "\n".join(items)
     tables = (GHOST, LEMMAS, ENDS)
     table = {name: " ".join(dict.fromkeys(word for each in tables for word in each.get(name, "").split())) for each in tables for name in each}
@@ -438,7 +468,8 @@ def implementations(module: Module, wanted: list[Own]) -> str:
     if named:
         ghosts.append(ghost_line(f"{module.name}.specs.declared.{module.below('TheConstants')}", named))
     brought = set().union(*(own.brought for own in wanted))
-    uses = [code_line("super", sorted(brought.union(named_types([own.of for own in wanted])))), *imports(text, through(module, recursive.with_code(CODE, wanted)), code_line)]
+    here = sorted(map(module.named_here, brought.union(named_types([own.of for own in wanted]))))
+    uses = [code_line("super", here), *imports(text, through(module, recursive.with_code(CODE, wanted)), code_line)]
     about = f"//! How the types of {module.path} are written and read. Written by tools/derive.py.\n//!\n{sums_lines(wanted)}"
     return about + "".join(sorted(ghosts)) + "\n" + "".join(uses) + "\n" + text
 
@@ -457,17 +488,22 @@ def proofs(module: Module, wanted: list[Own]) -> Iterator[tuple[str, ...]]:
             yield halves.answers(count, front_of(count), method, goals), name, method
 
 
-def derive(crate: str, path: str) -> None:
-    """Writes the implementations and the proofs of the types of a file."""
-    module = Module(crate, path)
-    wanted = module.wanted()
+def made(module: Module, wanted: list[Own]) -> Files:
+    """The implementations and the proofs of these types of a file."""
     files = Files()
     files.add(implementations(module, wanted), "src", f"{module.at}derived.rt")
     for text, *words in proofs(module, wanted):
         files.add(text, "proofs", f"{module.at}derived", *words, "Answers.antt")
     for text, *words in recursive.files(module, wanted):
         files.add(text, *words)
-    files.write(crate, os.path.join("proofs", f"{module.at}derived"))
+    return files
+
+
+def derive(crate: str, path: str) -> None:
+    """Writes the implementations and the proofs of the types of a file."""
+    module = Module(crate, path)
+    wanted = module.wanted()
+    made(module, wanted).write(crate, os.path.join("proofs", f"{module.at}derived"))
     recursive.name_files(module, wanted)
 
 
@@ -479,26 +515,41 @@ def check(crate: str, path: str) -> None:
         raise Refused(f"{changed}: run tools/derive.py {crate} {path}")
 
 
+def succeeds(job: Callable[[str, str], None], crate: str, path: str) -> bool:
+    """Does this for a file, and says why where it can't."""
+    try:
+        job(crate, path)
+    except Refused as why:
+        print(f"derive: {path}{f':{why.line}' if why.line else ''}: {why}", file=sys.stderr)
+        return False
+    return True
+
+
+def prove(crate: str) -> NoReturn:
+    """Proves a crate by `rt check`, where no type changed since it was derived, and ends as that does."""
+    paths = derived_files(crate)
+    if not all([succeeds(check, crate, path) for path in paths]):
+        sys.exit(1)
+    sys.exit(subprocess.run(["rt", "check"], cwd=crate, check=False).returncode)
+
+
 def main() -> None:
     words = sys.argv[1:]
     if "--help" in words or "-h" in words:
         print(__doc__)
         return
+    if words[:1] == ["--prove"] and len(words) == 2:
+        prove(words[1])
     job = check if words[:1] == ["--check"] else derive
     words = words[job is check :]
-    if len(words) < 2 or any(word.startswith("-") for word in words):
+    paths = words[1:] or (derived_files(words[0]) if job is check and words else [])
+    if not paths or any(word.startswith("-") for word in words):
         sys.exit(__doc__)
-    failed = False
-    for path in words[1:]:
-        try:
-            job(words[0], path)
-        except Refused as why:
-            print(f"derive: {path}{f':{why.line}' if why.line else ''}: {why}", file=sys.stderr)
-            failed = True
-            if job is derive:
-                break
-    sys.exit(1 if failed else 0)
+    if job is check:
+        sys.exit(0 if all([succeeds(check, words[0], path) for path in paths]) else 1)
+    sys.exit(0 if all(succeeds(derive, words[0], path) for path in paths) else 1)
 
 
 if __name__ == "__main__":
+    signal.signal(signal.SIGPIPE, signal.SIG_DFL)
     main()

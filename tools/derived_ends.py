@@ -6,10 +6,10 @@ and of those of the crate that have parameters.
 """
 from __future__ import annotations
 
-from declarations import Declared, Shape, split
+from declarations import Declared, Shape, is_flat, split
 from derived_rounds import READER, Own, Rounds, Unknown, all_of, parted
-from derived_terms import underscored
-from shared import list_of
+from derived_terms import ANY_VALUE, refusal_of_fields
+from shared import list_of, underscored
 
 # Of types without parts.
 LEAVES = {
@@ -38,6 +38,7 @@ PARTED = {"Option": ("option_inside", False), "Box": ("box_inside", True)}
 PARTED |= {kind: ("each_inside", True) for kind in ("Vec", "VecDeque", "BTreeSet")}
 # Where the lemmas stand. Those of rmp_ends and rmp_types can be named through rmp_serde too.
 LEMMAS = {
+    "rmp_decode.specs.FieldRefusing": "RefusesFields",
     "rmp_decode.specs.Refusing": "part_of",
     "rmp_ends.specs.BufferEnds": "buffer_inside",
     "rmp_ends.specs.EnumEnds": "enum_inside no_content_inside nothing_inside with_content_inside",
@@ -92,7 +93,7 @@ class Ends(Rounds):
         if kind not in self.own or self.own[kind].of.parameters or not has_ends(self.own[kind]):
             raise Unknown(f"no EndsInside of {kind} is known")
         laws = f"{underscored(kind)}_ends"
-        self.named[laws] = f"{self.own[kind].modules['EndsInside']}.{kind}EndsInside"
+        self.named[laws] = f"{self.own[kind].modules['EndsInside']}.{self.own[kind].of.name}EndsInside"
         return f"({laws}.ends_inside-law {READER})"
 
     def tuple(self, kinds: list[str]) -> str:
@@ -108,7 +109,10 @@ class Ends(Rounds):
             return self.inside(kinds[0])
         if shape.kind == "tuple":
             return self.tuple(kinds)
-        return f"fields_inside _ _ _ {all_of([self.inside(kind) for kind in kinds])}"
+        law = f"fields_inside _ _ _ {all_of([self.inside(kind) for kind in kinds])}"
+        if shape.copies():
+            return f"box_inside {ANY_VALUE} ({refusal_of_fields(self.words, shape, is_flat(shape))}) ({law})"
+        return law
 
     def whole(self, of: Declared) -> str:
         """That of a struct or an enum."""

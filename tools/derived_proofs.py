@@ -9,20 +9,22 @@ from declarations import Declared, Field, Shape, is_long
 from derived_terms import all_elements, apart, bound_name, codes, nested, place_of, then_values
 from halves import FIELDS
 from imports import imports
-from shared import numbered, tuple_of
+from shared import numbered, tuple_of, variants_as
 
 if TYPE_CHECKING:
     from modules import Module
 
 # Where the lemmas and signs of the answers come from.
 WORDS = {
-    "std.proofs.Common": "◌≡◌ refl arith rules Result List ℕ Option None Some",
+    "std.proofs.Common": "◌≡◌ refl sym subst arith rules Result List ℕ Option None Some inl inr",
     "std.proofs.lemmas.Int": "to_z-of_z",
     "std.specs.Int": "w8 w16 w32 w64 w128",
-    "std.specs.Prelude": "◌∷◌ [] codes true false pos negsuc string_bytes",
+    "std.specs.Prelude": "◌∷◌ [] codes true false pos negsuc string_bytes MatchOption",
     "rmp_wire.specs.Msg": "Msg",
     "rmp_wire.specs.Types": "buffer_bytes",
     "rmp_wire.specs.declared.source.Source": "Ghosts",
+    "rmp_decode.specs.Defaults": "IsGiven",
+    "rmp_decode.specs.Fields": "Absent Field",
     "rmp_decode.specs.Law": "Lawful",
     "rmp_decode.specs.Variants": "FailsToOpenVariant Content",
     "rmp_decode.specs.declared.deserializer.Deserializer": "Deserializer",
@@ -79,6 +81,27 @@ def has_defaults(shape: Shape) -> bool:
     return any(field.default for field in shape.fields)
 
 
+# Of a struct of which a field has a text as its default.
+TEXT_FIELD = """
+-- a field of which a text is the default, and others
+text_field : (Q S : List (Option Msg) → Type 0) → ((fs : List (Option Msg)) → Q fs → S fs) → {V : Type 0} (reads : Msg → V → Type 0) (A : V → Type 0)
+    (o : Option V) (v : V) → MatchOption o (A v) (λ x. v ≡ x) → (fs : List (Option Msg))
+    → Field (λ m. IsGiven (reads m) o) (Absent (Some (given None)) (given o)) Q fs → Field (λ m. reads m v) (A v) S fs
+text_field Q S f reads A o v h [] q = absurd q
+text_field Q S f reads A None v h (None ∷ fs) q = (h, f fs q.1)
+text_field Q S f reads A (Some x) v h (None ∷ fs) q =
+    absurd (subst (λ o. MatchOption o ⊥ (λ d. MatchOption d.value (Unit {0}) (λ v. ⊥))) q.0 tt)
+text_field Q S f reads A None v h (Some m ∷ fs) q = absurd q.0
+text_field Q S f reads A (Some x) v h (Some m ∷ fs) q = (subst (reads m) (sym h) q.0, f fs q.1)
+"""
+
+
+def copied(shape: Shape, field: Field) -> str:
+    """The arm after the call that fills in a text, or a copy of one."""
+    place = shape.copies().index(field)
+    return f"c.in-Ok-{numbered('text_or', place)}"
+
+
 def defaulted_read(shape: Shape, fields: list[str], reading: str, arm: str = "c.in-Ok", others: frozenset[str] = frozenset()) -> tuple[str, str]:
     """What a law is made of where a field has a default: from what was read to the value, and from the value, which has these fields and this
     reading, to what is read."""
@@ -89,7 +112,10 @@ def defaulted_read(shape: Shape, fields: list[str], reading: str, arm: str = "c.
     for field, value in reversed(list(zip(shape.fields, fields))):
         if field.default:
             fact = f"(λ v. {field.default.holds('v')})"
-            back = f"(given_field _ _ {back} _ {fact} _ _ _ {field.default.proof} {filled(field, arm, others)}.ensures)"
+            if field.default.is_copy:
+                back = f"(text_field _ _ {back} _ {fact} _ _ {copied(shape, field)}.ensures)"
+            else:
+                back = f"(given_field _ _ {back} _ {fact} _ _ _ {field.default.proof} {filled(field, arm, others)}.ensures)"
             needed = f"(given_needed _ _ {needed} _ _ {value})"
         else:
             back = f"(plain_field _ _ {back} _ _)"
@@ -102,6 +128,17 @@ def defaulted_read(shape: Shape, fields: list[str], reading: str, arm: str = "c.
 def around(shape: Shape, step: str, last: str) -> str:
     """A lemma for each field, around one for their end."""
     return f"({step} " * len(shape.fields) + last + ")" * len(shape.fields)
+
+
+def named_read(shape: Shape) -> tuple[str, str]:
+    """From what was read of a struct with names to the value, and from the value to what is read."""
+    fields, reading = [f"r.0.{field.name}" for field in shape.fields], "r.1.0" if shape.skipped else "r.1"
+    back, forth = "r", f"({nested(fields, 'tt', then_values)}, {reading})"
+    if has_defaults(shape):
+        back, forth = defaulted_read(shape, fields, reading)
+    if shape.skipped:
+        back = f"({', '.join([back, *(field.default.proof for field in shape.skipped)])})"
+    return f"λ m r. {back}", f"λ m r. {forth}"
 
 
 def struct_read(shape: Shape) -> str:
@@ -117,13 +154,13 @@ def struct_read(shape: Shape) -> str:
         forth = f"λ m r. ({values}, row_as _ _ {around(shape, 'field_each _ _ _ _', 'field_none')} m r.1)"
     elif shape.kind == "tuple":
         forth = f"λ m r. ({values_of([f'r.0.{field.name}' for field in shape.fields])}, r.1)"
-    elif has_defaults(shape):
-        back, forth = (f"λ m r. {term}" for term in defaulted_read(shape, [f"r.0.{field.name}" for field in shape.fields], "r.1"))
     else:
-        forth = f"λ m r. ({nested([f'r.0.{field.name}' for field in shape.fields], 'tt', then_values)}, r.1)"
-    text = answer("returns-in-Ok-clause-law", held(shape, "c.in-Ok", f"lawful_ok _ _ _ _ _ _ _ ({back}) c.in-Ok.ensures.law"))
+        back, forth = named_read(shape)
+    text = TEXT_FIELD * bool(shape.copies())
+    text += answer("returns-in-Ok-clause-law", held(shape, "c.in-Ok", f"lawful_ok _ _ _ _ _ _ _ ({back}) c.in-Ok.ensures.law"))
     text += answer("returns-in-Err-clause-law", f"lawful_err _ _ _ _ _ _ ({forth}) c.in-Err.ensures.law")
-    return text + answer("returns-in-Err-clause-refused", f"c.in-Err.ensures.{refused}")
+    refusal = f"c.in-Err.ensures.{refused}"
+    return text + answer("returns-in-Err-clause-refused", f"λ ready. inl ({refusal} ready)" if shape.copies() else refusal)
 
 
 CALLS = {"unit": "unit_variant", "newtype": "newtype_variant", "tuple": "newtype_variant", "named": "fields_variant"}
@@ -268,13 +305,14 @@ def answers(of: Declared, traits: set[str], module: Module) -> Iterator[tuple[st
             yield of.name, "Serialize", "serialize", with_imports(values, module, f"{of.name}Serialize.serialize")
     if "Deserialize" in traits:
         text = struct_read(of.shape) if of.shape else enum_read(of)
-        yield of.name, "Deserialize", "deserialize", with_imports(text, module, f"{of.name}Deserialize.deserialize", of.constants())
+        yield of.name, "Deserialize", "deserialize", with_imports(text, module, f"{of.name}Deserialize.deserialize", of.constants(), of.enums())
         for elements in all_elements(of):
             text = struct_read(elements.shape)
             yield elements.name, "Deserialize", "deserialize", with_imports(text, module, f"{elements.name}Deserialize.deserialize")
 
 
-def with_imports(text: str, module: Module, goals: str, constants: Iterable[str] = ()) -> str:
+def with_imports(text: str, module: Module, goals: str, constants: Iterable[str] = (), enums: Iterable[str] = ()) -> str:
     table = WORDS | {f"{module.name}.specs.declared.{module.below('TheConstants')}": " ".join(sorted(constants))}
     lines = imports(text, table, lambda of, names: f"use Rattle.{of}.{{{', '.join(names)}}}\n")
+    lines += [f"use Rattle.{module.name}.specs.declared.{module.below(name)}.TheVariants as {variants_as(name)}\n" for name in sorted(enums)]
     return "".join(lines) + f"use Rattle.{module.name}.proofs.{module.below('derived', goals)}.Goals as goal\n" + text

@@ -3,9 +3,7 @@
 Such a type has no parameters. An enum's variants hold nothing, or values with names or without, and a struct's fields have names. Each value is
 a leaf (recursive_leaves.py), or the type again, in a `Vec`, a `Box`, an `Option<Box<_>>` or a map; in a struct it isn't in a `Box` alone. What is
 known of the type is said level by level, so it gets a file of definitions and laws, specs/TLevels.antt, and one of its round trip,
-specs/TRounds.antt. Each type of the crate that is a leaf has a file, specs/TLeaf.antt. What such types share are Recursion.antt and
-RecursionRounds.antt, of fields with names RecursionFields.antt, of lists and options of leaves RecursionLeaves.antt, and of maps
-RecursionMaps.antt and RecursionMapRounds.antt.
+specs/TRounds.antt. Each type of the crate that is a leaf has a file, specs/TLeaf.antt. What all such types share is the library rmp_recursive.
 """
 from __future__ import annotations
 
@@ -16,17 +14,12 @@ import recursive_code
 from declarations import QUOTED, Declared, Field, Refused, Shape, declared_at
 import recursive_answers
 from recursive_holders import leaf_readers, lent, reading, rounds
-import recursive_map_shared as map_shared
 import recursive_struct_answers as struct_answers
-import recursive_struct_code as struct_code
-import recursive_struct_shared as struct_shared
 from recursive_enums import levels_file
 from recursive_leaves import LEAVES, leaf_of
-from recursive_levels import AGAIN, BOX, LIBRARY, MAPS, ORDERS, Level, is_map, tables
+from recursive_levels import AGAIN, BOX, LIBRARY, MAPS, ORDERS, Level, tables
 from recursive_own_leaves import leaf_file
 from recursive_rounds import rounds_file
-from recursive_shared import LEAVES as OF_LEAVES
-from recursive_shared import PROOFS, ROUNDS, SPECS
 from recursive_struct_proofs import proofs_file as struct_proofs_file
 from recursive_struct_rounds import rounds_file as struct_rounds_file
 from recursive_structs import levels_file as struct_levels_file
@@ -43,6 +36,7 @@ WORDS = {
     "rmp_decode.specs.Options": "IsOption",
     "rmp_decode.specs.Read": "IsUnsigned IsSigned IsRaw IsChar",
     "rmp_decode.specs.Wide": "IsUnsigned128 IsSigned128",
+    "rmp_recursive.specs.Parts": "Row Boxed",
     "rmp_wire.specs.Msg": "truth float32 float64",
     "std.specs.Ordering": "nat_cmp bool_cmp",
     "std.specs.String": "string_cmp",
@@ -59,9 +53,11 @@ def levels_of(module: Module, wanted: list[Own]) -> list[Level]:
 
 
 def check(module: Module, wanted: list[Own]) -> None:
-    """Refuses a type that leads back to itself in another way than is derived."""
-    for own in wanted:
-        why = refusal(own) if own.of.leads_back() else None
+    """Refuses a type that leads back to itself in another way than is derived, and any such type of a crate that doesn't name the library."""
+    libraries = module.libraries()
+    unnamed = f"crates.txt doesn't name rmp_recursive for {module.name}: write {module.name}: {' '.join([*libraries, 'rmp_recursive'])}"
+    for own in filter(lambda own: own.of.leads_back(), wanted):
+        why = refusal(own) or ("rmp_recursive" not in libraries and unnamed)
         if why:
             raise Refused(f"{own.of.name}: it leads back to itself, and {why}", declared_at(module.source(), own.of.name))
 
@@ -123,15 +119,14 @@ def items(module: Module, wanted: list[Own]) -> list[str]:
     levels = levels_of(module, wanted)
     lines = leaf_readers(levels)
     for level in levels:
-        code = struct_code if level.fields else recursive_code
-        lines += [*code.writing(level), *code.readers(level), *reading(level), *(rounds(level) if module.rounds() else [])]
+        lines += [*recursive_code.writing(level), *recursive_code.readers(level), *reading(level), *(rounds(level) if module.rounds() else [])]
     return lines
 
 
 def with_words(table: dict[str, str], module: Module, wanted: list[Own]) -> dict[str, str]:
     """The table of where ghost words come from, with those of these types."""
     found, levels = dict(table), levels_of(module, wanted)
-    more = WORDS | {f"{module.name}.specs.Recursion": "Row Boxed"} if levels else {}
+    more = dict(WORDS) if levels else {}
     for level in levels:
         name, low = level.name, level.low
         rows = " ".join([*(f"{name}Row{shape.name}" for shape, _ in level.rows()), *(f"{of.name}Read" for of in level.contents())])
@@ -150,22 +145,6 @@ def with_code(table: dict[str, str], wanted: list[Own]) -> dict[str, str]:
     return table | {"rmp_decode": f"{table['rmp_decode']} ReadContent ReadPlaces Slices", "rmp_wire": f"{table['rmp_wire']} Source"}
 
 
-def shared_files(module: Module, levels: list[Level]) -> Iterator[tuple[str, str, str]]:
-    """What the recursive types of a crate share, and the structs among them."""
-    texts = [(SPECS, "specs", "Recursion"), (PROOFS, "proofs", "Recursion"), *[(ROUNDS, "specs", "RecursionRounds")] * bool(module.rounds())]
-    if any(level.fields or level.contents_again() for level in levels):
-        texts += [(struct_shared.SPECS, "specs", "RecursionFields"), (struct_shared.PROOFS, "proofs", "RecursionFields")]
-    if module.rounds() and any(it.same for level in levels for part in level.leaves() for it in part.within()):
-        texts.append((OF_LEAVES, "specs", "RecursionLeaves"))
-    if any(is_map(part) for level in levels for part in level.holders()):
-        texts += [(map_shared.SPECS, "specs", "RecursionMaps"), (map_shared.PROOFS, "proofs", "RecursionMaps")]
-        texts += [(map_shared.ROUNDS, "specs", "RecursionMapRounds")] * bool(module.rounds())
-    for text, folder, name in texts:
-        about, rest = text.split("\n", 1)
-        text = f"{about} Written by tools/derive.py.\n{rest}".replace("Rattle.CRATE.", f"Rattle.{module.name}.")
-        yield through(module, text), folder, f"{name}.antt"
-
-
 def through(module: Module, text: str) -> str:
     """The text, where it names rmp_round_trip through the library that the crate names."""
     return text.replace("Rattle.rmp_round_trip.", f"Rattle.{module.rounds()}.") if module.rounds() else text
@@ -174,8 +153,6 @@ def through(module: Module, text: str) -> str:
 def files(module: Module, wanted: list[Own]) -> Iterator[tuple[str, ...]]:
     """Each text that such types have beside their code, and then its path."""
     levels = levels_of(module, wanted)
-    if levels:
-        yield from shared_files(module, levels)
     for part in dict.fromkeys(it for level in levels for it in level.own_leaves()):
         yield through(module, leaf_file(part, module.name, bool(module.rounds()))), "specs", f"{part.kind}Leaf.antt"
     below = ("proofs", f"{module.at}derived")
@@ -184,16 +161,15 @@ def files(module: Module, wanted: list[Own]) -> Iterator[tuple[str, ...]]:
             path = ("SlicesReadLeaves", part.call())
             yield struct_answers.leaf_answers(part.named, module.below("derived", *path)), *below, *path, "Answers.antt"
     for level in levels:
-        of = struct_answers if level.fields else recursive_answers
         yield (struct_levels_file if level.fields else levels_file)(level), "specs", f"{level.name}Levels.antt"
         yield (struct_proofs_file if level.fields else recursive_answers.proofs_file)(level), "proofs", f"{level.name}Levels.antt"
         if module.rounds():
             yield through(module, (struct_rounds_file if level.fields else rounds_file)(level)), "specs", f"{level.name}Rounds.antt"
         cycle = (f"{level.name}Serialize", f"+{level.low}_writing")
-        yield of.writing_answers(level, module.below("derived", *cycle)), *below, *cycle, "Answers.antt"
+        yield (struct_answers if level.fields else recursive_answers).writing_answers(level, module.below("derived", *cycle)), *below, *cycle, "Answers.antt"
         cycle = (f"+{level.low}_reading",)
-        yield of.reading_answers(level, module.below("derived", *cycle)), *below, *cycle, "Answers.antt"
-        yield of.reading_measures(level, module.below("derived", *cycle)), *below, *cycle, "Invariants.antt"
+        yield recursive_answers.reading_answers(level, module.below("derived", *cycle)), *below, *cycle, "Answers.antt"
+        yield recursive_answers.reading_measures(level, module.below("derived", *cycle)), *below, *cycle, "Invariants.antt"
 
 
 def name_files(module: Module, wanted: list[Own]) -> None:

@@ -10,9 +10,10 @@ import dataclasses
 import re
 from typing import Optional
 
-from declarations import PLAIN, PRELUDE, Declared, Field, Shape, identifiers, split
-from derived_terms import Words, absent_of, alias, by_cases, chained, codes, data_of, underscored, values_of
-from shared import list_of
+from declarations import Declared, Field, Shape, identifiers, split
+from derived_terms import Words, absent_of, alias, by_cases, chained, codes, data_of, values_of
+from field_types import PLAIN, PRELUDE
+from shared import list_of, underscored
 
 # Of types without parts: that a value is read as it was written, and that none is written as nil.
 LEAVES = {
@@ -226,7 +227,7 @@ class Rounds:
         if kind not in self.own or self.own[kind].of.parameters or not self.own[kind].has(trait):
             raise Unknown(f"no {trait} of {kind} is known")
         laws = f"{underscored(kind)}_{'rounds' if trait == 'RoundTrip' else 'other'}"
-        self.named[laws] = f"{self.own[kind].modules[trait]}.{kind}{trait}"
+        self.named[laws] = f"{self.own[kind].modules[trait]}.{self.own[kind].of.name}{trait}"
         return f"{laws}.{law}-law" + (f" {READER}" if trait == "RoundTrip" else "")
 
     def instance(self, name: str, parts: list[str]) -> Declared:
@@ -662,6 +663,9 @@ class Own:
 
     def implementation(self, trait: str) -> list[str]:
         """That of `RoundTrip` or of `NeverNil`, in lines."""
+        skipped = next((field.name for shape in self.of.shapes() for field in shape.skipped), None)
+        if skipped and trait == "RoundTrip":
+            raise Unknown(f"{skipped} is skipped, so what is read may be another value")
         rounds, onlys, of = Rounds(self), Onlys(self), self.of.lent_for("'de")
         members = [*rounds_of(rounds, of), *onlys_of(onlys, of)] if trait == "RoundTrip" else other_of(rounds, of)
         for more in (rounds, onlys):

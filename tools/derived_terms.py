@@ -8,13 +8,13 @@ from typing import Optional
 
 from declarations import Declared, Field, Shape, identifiers, is_flat, is_long
 from halves import FIELDS
-from shared import list_of
+from shared import list_of, underscored, variants_as
 
 # Where the words of the ghost members come from.
 GHOST = {
     "rmp_wire.specs.Msg": "nil",
     "std.specs.Option": "is_none",
-    "std.specs.Prelude": "◌≡◌ ◌≢◌ ◌∷◌ [] None Some codes false ⊤ IsSome OnOk IfErr",
+    "std.specs.Prelude": "◌≡◌ ◌≢◌ ◌∷◌ [] None Some codes false ⊤ IsSome OnOk IfErr IfOk MatchOption",
     "rmp_encode.specs.Data": "unit_struct unit_variant",
     "rmp_encode.specs.Refusals": "OfParts OfSink",
     "rmp_encode.specs.Ser": "sink_of settings_of",
@@ -26,7 +26,7 @@ GHOST = {
     "rmp_decode.specs.Exact": "RefusesExactly",
     "rmp_decode.specs.FieldRefusing": "RefusesFields",
     "rmp_decode.specs.Fields": "OfFields Field Absent NoField",
-    "rmp_decode.specs.Refusing": "RefusesTuple part_of",
+    "rmp_decode.specs.Refusing": "RefusesBoxed RefusesTuple part_of",
     "rmp_decode.specs.Rows": "AndThen NoMore",
     "rmp_decode.specs.Seq": "OfRow",
     "rmp_decode.specs.Units": "IsNothing not_nothing",
@@ -192,7 +192,9 @@ def reading_of(words: Words, shape: Shape, tree: str, value: Optional[str] = Non
         return f"OfRow ({chained([f'AndThen ({term})' for term in reads], 'NoMore')}) {tree}"
     absent = [absent_of(words, field, of) for field, of in zip(shape.fields, values)]
     fields = chained([f"Field ({there}) ({missing})" for there, missing in zip(reads, absent)], "NoField")
-    return f"OfFields ({codes(field.key for field in shape.fields)}) ({fields}) {tree}"
+    whole = f"OfFields ({codes(field.key for field in shape.fields)}) ({fields}) {tree}"
+    skipped = [f"({field.default.holds(f'{value}.{field.name}')})" for field in shape.skipped]
+    return " × ".join([f"({whole})", *skipped]) if skipped else whole
 
 
 def absent_of(words: Words, field: Field, value: str) -> str:
@@ -208,11 +210,6 @@ def chained(heads: list[str], end: str) -> str:
     return term
 
 
-def underscored(name: str) -> str:
-    """A type's name as that of a module."""
-    return re.sub(r"(?<=[a-z0-9])(?=[A-Z])", "_", name).lower()
-
-
 def apart(of: Declared, shape: Shape) -> str:
     """The name of the function that writes the fields of a type that borrows."""
     return f"put_{underscored(of.name)}" + ("" if of.shape else f"_{underscored(shape.name)}")
@@ -220,7 +217,7 @@ def apart(of: Declared, shape: Shape) -> str:
 
 def alias(of: Declared) -> str:
     """What an enum's variants are called by in terms."""
-    return f"the_{underscored(of.name)}"
+    return variants_as(of.name)
 
 
 def by_cases(of: Declared, terms: list[str], value: Optional[str] = "v") -> str:
@@ -238,6 +235,18 @@ def refusal_of(words: Words, shape: Shape, flat: bool = False) -> str:
     if shape.kind == "tuple":
         parts = [f"part_of {words.reads(kind, 'reads')} {words.reads(kind, 'refuses')}" for kind in kinds]
         return f"RefusesTuple ({list_of(parts)})"
+    refusal = refusal_of_fields(words, shape, flat)
+    # where a default is a copy of a text, memory may run out after the message
+    return f"RefusesBoxed {ANY_VALUE} ({refusal})" if shape.copies() else refusal
+
+
+# What a message is read as, where only that there is one matters.
+ANY_VALUE = "{V = Unit {0}} (λ human lends m v. Unit {0})"
+
+
+def refusal_of_fields(words: Words, shape: Shape, flat: bool) -> str:
+    """Which error says that fields with names aren't there."""
+    kinds = [field.read_as() for field in shape.fields]
     if flat or len(kinds) > MOST_IN_TUPLES:
         return refusal_in_a_list(words, shape, kinds)
     fields = f"⟦<{nested(kinds)} as ReadFields<'de, R>>⟧"

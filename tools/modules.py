@@ -7,12 +7,15 @@ import shutil
 import subprocess
 import tempfile
 import zlib
-from typing import Iterator, Optional
+from collections.abc import Sequence
+from typing import Optional
 
 from crates import listed
-from declarations import Refused, identifiers, read
+from declarations import ITEM, Refused, identifiers, read
 from derived_rounds import Own
+from field_types import PLAIN, PRELUDE, Alias, aliases_of
 from lines import broken
+from uses import DECLARED, LIBRARIES as LIBRARY, STD, Use, constants_of, number_of, uses_of
 
 TRAITS = {"Serialize", "Deserialize", "RoundTrip", "NeverNil", "EndsInside"}
 LIBRARIES = "rmp_encode rmp_decode rmp_wire".split()
@@ -26,11 +29,28 @@ def implemented(text: str, name: str) -> set[str]:
     return set(re.findall(rf"^impl\b[^{{]*?\b(\w+)(?:<[^<>{{]*>)?\s+for\s+{name}\b", text, re.M)) & TRAITS
 
 
-def brought_in(text: str) -> Iterator[tuple[str, list[str]]]:
-    """The names that the `use` lines of a file bring in, each with the module that it comes from."""
-    for path, names in re.findall(r"^(?:pub(?:\([^)]*\))? )?use ([\w:]+?)::(\{[^{}]*\}|\w+);", text, re.M):
-        for name in re.findall(r"\w+", names):
-            yield name, path.split("::")
+def by_hand(crate: str, name: str) -> bool:
+    """Whether a file of a crate implements `Serialize` for a type itself."""
+    for at, _, files in os.walk(os.path.join(crate, "src")):
+        for file in files:
+            if file.endswith(".rt") and file != "derived.rt":
+                with open(os.path.join(at, file), encoding="utf-8") as it:
+                    if "Serialize" in implemented(it.read(), name):
+                        return True
+    return False
+
+
+def derived_files(crate: str) -> list[str]:
+    """The files of a crate whose types are derived, by their paths below src/."""
+    found, sources = [], os.path.join(crate, "src")
+    for at, _, files in os.walk(sources):
+        for file in files:
+            place = os.path.join(at, file)
+            with open(place, encoding="utf-8") as it:
+                text = it.read()
+            if file.endswith(".rt") and DERIVED.search(text) and ITEM.search(text):
+                found.append(os.path.relpath(place, sources))
+    return sorted(found)
 
 
 class Module:
@@ -53,7 +73,7 @@ class Module:
             raise Refused(f"{self.crate} is no folder of a crate: there is no crates.txt two folders above")
         crates = listed(place)
         if self.name not in crates:
-            raise Refused(f"crates.txt doesn't list {self.name}: add the line {self.name}: {' '.join(LIBRARIES)}")
+            raise Refused(f"crates.txt doesn't list {self.name}: add the line {self.name}: rmp_serde {' '.join(LIBRARIES)}")
         return crates[self.name][1]
 
     def rounds(self) -> Optional[str]:
@@ -113,9 +133,11 @@ class Module:
         """What tells it from other files of this crate and of others."""
         return self.name, self.path
 
-    def other(self, path: list[str]) -> Optional[Module]:
+    def other(self, path: Sequence[str]) -> Optional[Module]:
         """The file of a module that a `use` names, where it is one of the crate, or of a library beside it."""
         crate, words = self.crate, self.below().split(".") if self.at else []
+        if not path:
+            return None
         if path[0] in self.libraries():
             crate, words = os.path.join(os.path.dirname(os.path.abspath(crate)), path[0]), []
         elif path[0] == "crate":
@@ -128,39 +150,113 @@ class Module:
         found = Module(crate, "/".join(words) + ".rt" if words else "lib.rt")
         return found if os.path.exists(os.path.join(crate, "src", found.path)) else None
 
+    # ---- what it brings in
+
+    def uses(self, text: str) -> dict[str, Use]:
+        """What its text brings in, by the names that it has here, those of a * among them where it is of a file of the repository."""
+        found = {}
+        for name, use in uses_of(text):
+            if use.name != "*":
+                found[name] = use
+                continue
+            other = self.other(use.path)
+            names = DECLARED.findall(other.source()) if other else []
+            found |= {it: Use(use.path, it) for it in names if it not in found}
+        return found
+
+    def named_here(self, name: str) -> str:
+        """How a type is brought in from this file, which may have another name for it."""
+        uses = self.uses(self.source())
+        other = next((local for local, use in uses.items() if use.name == name != local and use.is_known()), None)
+        return f"{other} as {name}" if other and name not in uses else name
+
+    def declares(self, use: Use) -> Optional[Module]:
+        """The file that declares what a `use` brings in, where it is one of the crate, or of a library beside it."""
+        other, seen = self.other(use.path), []
+        while other and other.key() not in seen:
+            text = other.source()
+            if use.name in DECLARED.findall(text):
+                return other
+            seen.append(other.key())
+            use = other.uses(text).get(use.name, Use((), ""))
+            other = other.other(use.path)
+        return None
+
+    def alias(self, name: str, use: Use) -> dict[str, Alias]:
+        """The type of which a `use` brings in another name, where it is said without a `use` of its own."""
+        other = self.declares(use)
+        alias = dict(aliases_of(other.source())).get(use.name) if other else None
+        is_plain = alias and set(identifiers(alias.kind)) <= PLAIN | PRELUDE | set(alias.parameters)
+        return {name: alias} if is_plain else {}
+
+    def number(self, use: Use) -> Optional[int]:
+        """The number that a constant is which a `use` brings in."""
+        other = self.declares(use)
+        if not other:
+            return None
+        constants, uses = constants_of(other.source()), other.uses(other.source())
+
+        def value(name: str) -> Optional[int]:
+            if name in constants:
+                return number_of(constants[name].value, value)
+            return other.number(uses[name]) if name in uses else None
+
+        return value(use.name)
+
+    def refusal(self, use: Use) -> str:
+        """Why what a `use` brings in is no type that is written and read, or nothing."""
+        first = use.path[0] if use.path else use.name
+        if use.is_known():
+            return "" if first in STD or first in self.libraries() else f"crates.txt doesn't name {first} for {self.name}"
+        if first in STD or first in LIBRARY:
+            return "it has no Serialize and Deserialize"
+        at = os.path.join(os.path.dirname(os.path.abspath(self.crate)), first) if first in self.libraries() else self.crate
+        if by_hand(at, use.name):
+            return ""
+        path, other = "::".join(use.path), self.declares(use)
+        if not self.other(use.path):
+            return f"there is no file of {path}" if first in ("crate", "self", "super") else f"crates.txt doesn't name {first} for {self.name}"
+        if not other:
+            return f"{path} has no type of this name"
+        return "" if DERIVED.search(other.source()) else f"{other.path} has no line `mod derived;`"
+
     def types(self, seen: tuple[tuple[str, str], ...] = ()) -> dict[str, Own]:
         """The types of the crate that the file names, its own first, by their names."""
         source, names = self.source(), {}
-        has_derived = DERIVED.search(source)
-        for name, of in read(source).items():
+        has_derived, uses = DERIVED.search(source), self.uses(source)
+        for name, of in read(source, self).items():
             by_hand = implemented(source, name)
             derived = self.traits(by_hand, of.asked) if has_derived else set()
             derived |= {"EndsInside"} - by_hand if self.ends() and "Deserialize" in derived else set()
             modules = {trait: f"{self.name}.specs.contracts.{self.below(*['derived'] * (trait in derived))}" for trait in TRAITS}
             declared = f"{self.name}.specs.declared.{self.below(name)}"
-            names[name] = Own(of, derived, by_hand, modules, names, declared, dict(brought_in(source)))
-        for name, path in brought_in(source):
-            names.update(self.brought(name, path, seen))
+            names[name] = Own(of, derived, by_hand, modules, names, declared, uses)
+        for name, use in uses.items():
+            own = self.brought(use, seen)
+            if own:
+                names[name] = own
         return names
 
-    def brought(self, name: str, path: list[str], seen: tuple[tuple[str, str], ...]) -> dict[str, Own]:
-        """The type that a `use` of this file brings in by this name, where it can be read."""
-        other, seen = self.other(path), (self.key(), *seen)
+    def brought(self, use: Use, seen: tuple[tuple[str, str], ...]) -> Optional[Own]:
+        """The type that a `use` of this file brings in, where it can be read."""
+        other, seen = self.other(use.path), (self.key(), *seen)
         if not other or other.key() in seen:
-            return {}
+            return None
         try:
-            return other.named(name, seen)
+            return other.named(use.name, seen)
         except Refused:
-            return {}
+            return None
 
-    def named(self, name: str, seen: tuple[tuple[str, str], ...]) -> dict[str, Own]:
+    def named(self, name: str, seen: tuple[tuple[str, str], ...]) -> Optional[Own]:
         """The type of this name. Of another crate, it is one whose file has derived types."""
         source = self.source()
-        if name not in read(source):
-            return next((self.brought(name, path, seen) for brought, path in brought_in(source) if brought == name), {})
+        if name not in read(source, self):
+            use = self.uses(source).get(name)
+            return self.brought(use, seen) if use else None
         if self.name != seen[-1][0] and not DERIVED.search(source):
-            return {}
-        return {name: self.types(seen)[name]}
+            return None
+        return self.types(seen)[name]
+
 
 # ---- sums
 

@@ -222,12 +222,15 @@ def enum_answers(level: Level) -> str:
 
 
 def reading_answers(level: Level, place: str) -> str:
+    """How the type, and what it is again in, is read."""
     fields = "".join(struct_answers(of) for of in level.contents_again())
-    return answers_file(level, place, enum_answers(level) + held_answers(level) + fields)
+    return answers_file(level, place, (struct_answers if level.fields else enum_answers)(level) + held_answers(level) + fields)
 
 
 def reading_measures(level: Level, place: str) -> str:
-    """The content of a variant nests below it, and an element no deeper than its list."""
-    about = "The content of a variant nests below it, and an element no deeper than its list."
-    calls = [part for _, part in level.variants if part and (part.is_lent or not part.is_leaf)]
-    return measures_file(level, place, about, "newtype_variant_with", calls, "".join(fields_measures(of) for of in level.contents_again()))
+    """That each read ends."""
+    about, call = "The content of a variant nests below it, and an element no deeper than its list.", "newtype_variant_with"
+    if level.fields:
+        about, call = "Fields nest below their struct, and so does an element of a list, unless it is a number out of bytes.", "next_value_with"
+    calls = [part for _, part in [*level.variants, *level.fields] if part and (part.is_lent or not part.is_leaf)]
+    return measures_file(level, place, about, call, calls, "".join(fields_measures(of) for of in ([level] if level.fields else level.contents_again())))

@@ -1,4 +1,4 @@
-"""The code that derive.py writes for a recursive enum."""
+"""The code that derive.py writes for a recursive enum or struct."""
 from __future__ import annotations
 
 from typing import Optional
@@ -7,12 +7,13 @@ from declarations import Shape
 import recursive_holders
 from recursive_holders import made_of, read_by, values_in
 from recursive_leaves import Part
-from recursive_levels import Level, held_in
-import recursive_struct_code as struct_code
+from recursive_levels import Content, Level, held_in
 from shared import texts, tuple_of
 
+# ---- reading
 
-def arm(level: Level, at: int, shape: Shape, part: Optional[Part]) -> list[str]:
+
+def variant_arm(level: Level, at: int, shape: Shape, part: Optional[Part]) -> list[str]:
     """How a variant is read whose name was."""
     place = "_" if at == len(level.variants) - 1 else str(at)
     if part is None:
@@ -26,12 +27,48 @@ def arm(level: Level, at: int, shape: Shape, part: Optional[Part]) -> list[str]:
     ]
 
 
+def enum_body(level: Level) -> list[str]:
+    """How an enum is read."""
+    arms = [line for at, (shape, part) in enumerate(level.variants) for line in variant_arm(level, at, shape, part)]
+    return [f"match de.deserialize_enum_by::<P>({texts(shape.key for shape, _ in level.variants)}) {{", *arms, "Err(e) => Err(e),", "}"]
+
+
+def field_arm(level: Level, at: int) -> list[str]:
+    """How the field at a place is read."""
+    place = "_" if at == len(level.fields) - 1 else str(at)
+    first, *others = read_by(level.whole, level.fields[at][1])
+    return [f"Ok(Some({place})) => match fields.next_value_with({first}", *others, ") {", f"Ok(value) => slot{at} = Some(value),", "Err(e) => return Err(e),", "},"]
+
+
+def fields_body(level: Level) -> list[str]:
+    """How the fields of a struct or of a variant are read: in any order, and then the value of each."""
+    names = texts(field.key for field, _ in level.fields)
+    of = level.shape.name if isinstance(level, Content) else level.name
+    lines = [f'let mut fields = match de.deserialize_struct("{of}", {names}) {{', "Ok(fields) => fields,", "Err(e) => return Err(e),", "};"]
+    lines += [f"let mut slot{at}: Option<{part.kind}> = None;" for at, (_, part) in enumerate(level.fields)]
+    arms = [line for at in range(len(level.fields)) for line in field_arm(level, at)]
+    lines += ["loop {", "match fields.next_field_by::<P>() {", *arms, "Ok(None) => break,", "Err(e) => return Err(e),", "}", "}"]
+    for at, (field, part) in enumerate(level.fields):
+        given = f'"{field.key}", slot{at}, {part.made_absent}'
+        lines += [f"let value{at} = match fields.given_or({given}) {{", "Ok(value) => value,", "Err(e) => return Err(e),", "};"]
+    return [*lines, "match fields.end() {", f"Ok(()) => Ok({value_of(level)}),", "Err(e) => Err(e),", "}"]
+
+
+def value_of(level: Level) -> str:
+    """What is made of the values of its fields."""
+    values = [f"value{at}" for at in range(len(level.fields))]
+    if isinstance(level, Content):
+        return tuple_of(values) if len(values) > 1 else values[0]
+    return f"{level.name} {{ {', '.join(f'{field.name}: {value}' for (field, _), value in zip(level.fields, values))} }}"
+
+
 def readers(level: Level) -> list[str]:
     """The functions that read the type and what it is again in."""
-    arms = [line for at, (shape, part) in enumerate(level.variants) for line in arm(level, at, shape, part)]
-    body = [f"match de.deserialize_enum_by::<P>({texts(shape.key for shape, _ in level.variants)}) {{", *arms, "Err(e) => Err(e),", "}"]
-    bound = "ReadContent<R> + ReadPlaces<R>" if level.contents_again() else "ReadContent<R>"
-    return recursive_holders.readers(level, bound, body, struct_code.body)
+    bounds = ["ReadContent<R>"] * (not level.fields) + ["ReadPlaces<R>"] * bool(level.fields or level.contents_again())
+    return recursive_holders.readers(level, " + ".join(bounds), fields_body(level) if level.fields else enum_body(level), fields_body)
+
+
+# ---- writing
 
 
 def written(level: Level, at: int, shape: Shape, part: Optional[Part]) -> list[str]:
@@ -50,16 +87,17 @@ def written(level: Level, at: int, shape: Shape, part: Optional[Part]) -> list[s
     return [f"{made} => {{", opened, *[f"parts.serialize_element({value})?;" for value in names], "parts.end()", "}"]
 
 
+def any_of(level: Level, shape: Shape, part: Optional[Part]) -> str:
+    """A pattern of a variant, whatever its values are."""
+    return f"{level.name}::{shape.name} {{ .. }}" if shape.kind == "named" else made_of(level, shape, ["_" for _ in held_in(part)])
+
+
 def writing(level: Level) -> list[str]:
     """The implementation of `Serialize`."""
+    if level.fields:
+        fields = [f'fields.serialize_field("{field.key}", &self.{field.name})?;' for field, _ in level.fields]
+        return recursive_holders.writing(level, [f'let mut fields = se.serialize_struct("{level.name}", {len(fields)})?;', *fields, "fields.end()"], ["None"])
     arms = [line for at, (shape, part) in enumerate(level.variants) for line in written(level, at, shape, part)]
     no_byte = [f"{any_of(level, shape, part)} => None," for shape, part in level.variants]
     lower = any(part is None for _, part in level.variants)
     return recursive_holders.writing(level, ["match self {", *arms, "}"], ["match self {", *no_byte, "}"], lower)
-
-
-def any_of(level: Level, shape: Shape, part: Optional[Part]) -> str:
-    """A pattern of a variant, whatever its values are."""
-    if shape.kind == "named":
-        return f"{level.name}::{shape.name} {{ .. }}"
-    return made_of(level, shape, ["_" for _ in held_in(part)])

@@ -45,10 +45,10 @@ def answers_file(level: Level, place: str, text: str) -> str:
         "rmp_decode.proofs.FieldWiths": "field_taken field_refused",
         "rmp_decode.proofs.StructRuns": "struct_start struct_step struct_place struct_value struct_met struct_missing struct_over struct_done",
         "rmp_decode.proofs.Structs": "fields_unopened",
-        f"{level.crate}.proofs.RecursionFields": "same_then field_steps run_reference not_missing",
+        "rmp_recursive.proofs.Fields": "same_then field_steps run_reference not_missing",
         f"{level.crate}.proofs.{name}Levels": " ".join(word for of in (level, *level.contents_again()) for word in fields_words(of)),
-        f"{level.crate}.proofs.RecursionMaps": "no_key key_got key_refused value_got value_refused owing to_come_some value_room",
-        f"{level.crate}.proofs.Recursion": "on_ok ok_holds at_most variant_done vec_row vec_done row_unopened row_refused row_unkept part_room part_steps steps_at other_steps"
+        "rmp_recursive.proofs.Maps": "no_key key_got key_refused value_got value_refused owing to_come_some value_room",
+        "rmp_recursive.proofs.Parts": "on_ok ok_holds at_most variant_done vec_row vec_done row_unopened row_refused row_unkept part_room part_steps steps_at other_steps"
         " content_room_falls row_short lawful_at lent_law item_taken item_refused option_law some_if some_if_err none_left never_none",
     }
     return brought_in(text, table) + goals_of(level, place) + text
@@ -212,6 +212,6 @@ def measures_file(level: Level, place: str, about: str, call: str, parts: list[P
         "rmp_decode.proofs.StructRuns": "StructRun",
         f"{level.crate}.specs.{name}Levels": " ".join([f"Is{name}", *(f"{of.low}_names" for of in (level, *level.contents_again()))]),
         f"{level.crate}.proofs.{name}Levels": " ".join(f"{of.name}Held0" for of in (level, *level.contents_again())),
-        f"{level.crate}.proofs.Recursion": "steps_at",
+        "rmp_recursive.proofs.Parts": "steps_at",
     }
     return brought_in(text, table) + f"use Rattle.{level.crate}.proofs.{place}.Given as goal\n" + text

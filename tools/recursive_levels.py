@@ -292,18 +292,13 @@ def peano(at: int) -> str:
 
 def brought_in(text: str, table: dict[str, str]) -> str:
     """The lines that bring in the names of the table that a text has."""
-    lines = []
+    words, lines = set(re.findall(r"(?<![\w.-])[\w-]+", text)), []
     for module, names in table.items():
-        here = [name for name in dict.fromkeys(names.split()) if named(text, name)]
+        here = [name for name in dict.fromkeys(names.split()) if name in words or not re.search(r"\w", name) and name.replace("◌", "") in text]
         if here:
             lines.append(f"use Rattle.{module}.{{{', '.join(here)}}}\n")
     lines += ["use Rattle.rmp_wire.specs.Msg as msg\n"] * ("msg." in text)
     return "".join(lines)
-
-
-def named(text: str, name: str) -> bool:
-    sign = name.replace("◌", "")
-    return sign in text if sign != name else re.search(rf"(?<![\w.-]){re.escape(name)}(?![\w-])", text) is not None
 
 
 # ---- what holds of parts
@@ -518,6 +513,13 @@ LIBRARY = {
     "rmp_round_trip.specs.VariantRounds": "newtype_variant_some bare_row newtype_variant_row tuple_variant_row struct_variant_row bare_other"
     " newtype_variant_other tuple_variant_other struct_variant_other",
     "rmp_round_trip.specs.WideRounds": "unsigned128_row signed128_row",
+    "rmp_recursive.specs.Parts": "Row Boxed InSteps row_as row_in option_as option_in variant_as variant_in of_row_as of_row_in then_as then_in"
+    " each_holds through all_by each_from option_from",
+    "rmp_recursive.specs.Fields": "fields_as fields_in field_as field_in",
+    "rmp_recursive.specs.Leaves": "maps_alike_by option_alike_by",
+    "rmp_recursive.specs.MapRounds": "mapping_data maps_alike exact_truth",
+    "rmp_recursive.specs.Maps": "EntriesFit map_as map_in entries_hold entries_through entries_from turns_mapped",
+    "rmp_recursive.specs.Rounds": "each_data option_data lowers_as map_alike option_alike",
 }
 
 
@@ -538,12 +540,6 @@ def tables(level: Level) -> dict[str, str]:
         f"{declared}.TheFolds": f"ind-{name} fold-{name} rec-{name} map-{name} rec-roll-{name} fold_out-{name}",
         f"{declared}.TheOpen": f"{name}-F",
         f"{declared}.TheViews": f"roll-{name} out-roll-{name} roll-out-{name}",
-        f"{crate}.specs.Recursion": "Row Boxed InSteps row_as row_in option_as option_in variant_as variant_in of_row_as of_row_in then_as then_in each_holds through all_by each_from option_from",
-        f"{crate}.specs.RecursionFields": "fields_as fields_in field_as field_in",
-        f"{crate}.specs.RecursionMaps": "EntriesFit map_as map_in entries_hold entries_through entries_from turns_mapped",
-        f"{crate}.specs.RecursionMapRounds": "mapping_data maps_alike exact_truth",
-        f"{crate}.specs.RecursionLeaves": "maps_alike_by option_alike_by",
-        f"{crate}.specs.RecursionRounds": "each_data option_data lowers_as map_alike option_alike",
         f"{crate}.specs.{name}Levels": " ".join([*words, *(f"{low}_{word}" for word in levels)]),
         **{f"{crate}.specs.{part.kind}Leaf": part.leaf_words() for part in level.own_leaves()},
         **{part.declared[1]: part.kind for part in level.own_leaves()},

@@ -9,7 +9,7 @@ from derived_terms import Words, alias, by_cases, chained, codes, data_of, known
 from recursive_fields import pairs_of
 from recursive_leaves import Part, Values
 from recursive_levels import LIBRARY, brought_in, each, has_truth, places_of, product
-from recursive_rounds import field_rows, places_in
+from recursive_rounds import both_fields, field_rows, only_parts, places_in, row_proofs, some_facts
 
 
 def leaf_file(part: Part, crate: str, has_rounds: bool) -> str:
@@ -119,17 +119,15 @@ pub {low}_alike : (v w : {name}) → Same{name} v w → {low}_data v ≡ {low}_d
 def struct_laws(part: Part) -> str:
     """It isn't refused and is never nil; and what it lowers to is read as it, and as nothing else."""
     name, low, fields = part.kind, part.word, fields_of(part)
-    own, count = [field for field, _, _ in fields], len(fields)
-    pairs = listed(own, [of.data.format(a=place) for _, of, place in fields])
-    some = "".join(f"({of.is_some.format(a=place)}, " for _, of, place in fields) + "tt" + ")" * count
-    reads = [f"(λ j. {of.reads.format(k='j', a=place)})" for _, of, place in fields]
-    absent = [missing(*it) for it in fields]
-    fits = places_of("fit", count)
-    rows = field_rows(own, reads, absent, [of.row.format(a=place, fit=fit) for (_, of, place), fit in zip(fields, fits)])
-    facts = [(f"{Values(of).reads} {Values(of).same}", place, f"w.{field.name}") for field, of, place in fields]
-    told = [f"(λ k. Only {fact} k {place})" for fact, place, _ in facts]
-    onlys = field_rows(own, told, ["⊥"] * count, [of.only.format(a=place, fit=fit) for (_, of, place), fit in zip(fields, fits)])
-    both = chained([f"field_only {' '.join(fact)} _ _ _ _" for fact in facts[:-1]], f"(last_field {' '.join(facts[-1])} _)")
+    own, parts, values = zip(*fields)
+    pairs = listed(own, [of.data.format(a=place) for of, place in zip(parts, values)])
+    some = some_facts(parts, values)
+    reads = [f"(λ j. {of.reads.format(k='j', a=place)})" for of, place in zip(parts, values)]
+    rows = field_rows(own, reads, [missing(*it) for it in fields], row_proofs(parts, values))
+    facts = [f"{Values(of).reads} {Values(of).same}" for of in parts]
+    told, proofs = only_parts(facts, parts, values)
+    onlys = field_rows(own, told, ["⊥"] * len(own), proofs)
+    both = both_fields(facts, values, [f"w.{field.name}" for field in own])
     return f"""
 pub {low}_some : (v : {name}) → IsSome ({low}_data v)
 {low}_some v = structure_all {pairs} {some}
@@ -146,7 +144,7 @@ module _ (s : Settings) where
   {low}_only v fit = lowers_then s ({low}_data v) _ (λ m. (w : {name}) → Is{name} m w → Same{name} v w)
       (structure_row s {low}_names {pairs} ({chained([f'Field {it} ⊥' for it in told], 'NoField')}) refl
       ({onlys}))
-      (λ m q w r. fields_both {low}_names _ _ _ m q r (λ fs i j. let x = ({both}) fs i j in {each(places_in('x', count))}))
+      (λ m q w r. fields_both {low}_names _ _ _ m q r (λ fs i j. let x = ({both}) fs i j in {each(places_in('x', len(own)))}))
 """
 
 
@@ -159,8 +157,6 @@ def tables(part: Part, crate: str) -> dict[str, str]:
         "std.proofs.Common": LIBRARY["std.proofs.Common"] + " true false" * has_truth(of),
         declared: of.name,
         f"{declared.rpartition('.')[0]}.TheConstants": " ".join(sorted(of.constants())),
-        f"{crate}.specs.Recursion": "Row",
-        f"{crate}.specs.RecursionLeaves": "maps_alike_by option_alike_by",
         **{f"{crate}.specs.{it.kind}Leaf": it.leaf_words() for it in own},
         **{it.declared[1]: it.kind for it in own},
     }

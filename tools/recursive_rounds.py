@@ -1,7 +1,7 @@
 """The laws that derive.py writes for a recursive enum: its values are read as they were written, and as nothing else."""
 from __future__ import annotations
 
-from collections.abc import Iterable
+from collections.abc import Iterable, Sequence
 from typing import Optional
 
 from declarations import Field, Shape
@@ -18,11 +18,21 @@ def rounds_file(level: Level) -> str:
     return file_of(level, f"{level.name}Rounds", about, back_of(level) + only_of(level))
 
 
-def known_parts(part: Optional[Part]) -> list[dict[str, str]]:
-    """What is known of the parts of each value of a variant, in place of h."""
-    held = held_in(part)
+def known_parts(held: Sequence[Part]) -> list[dict[str, str]]:
+    """What is known of the parts of each of some values, in place of h."""
     places = iter(places_of("h", sum(isinstance(of, Again) for of in held)))
     return [{"h": next(places)} if isinstance(of, Again) else {} for of in held]
+
+
+def some_facts(held: Sequence[Part], values: list[str]) -> str:
+    """That none of these values is refused."""
+    return "".join(f"({put_in(of.is_some.format(a=value), h)}, " for of, value, h in zip(held, values, known_parts(held))) + "tt" + ")" * len(held)
+
+
+def row_proofs(held: Sequence[Part], values: list[str]) -> list[str]:
+    """That each of these values is read as it was written."""
+    known = zip(held, values, places_of("fit", len(held)), known_parts(held))
+    return [put_in(of.row.format(a=value, fit=fit), h) for of, value, fit, h in known]
 
 
 def rows(terms: list[str]) -> str:
@@ -78,15 +88,12 @@ def never_nil(shape: Shape, part: Optional[Part]) -> str:
 
 def back_some(shape: Shape, part: Optional[Part], values: list[str]) -> str:
     """That a variant of these values isn't refused."""
-    held = held_in(part)
-    data = [data_from(one, value) for one, value in zip(held, values)]
-    facts = [put_in(one.is_some.format(a=value), h) for one, value, h in zip(held, values, known_parts(part))]
     if part is None:
         return "refl"
-    terms = terms_of(shape, part, data)
+    terms = terms_of(shape, part, [data_from(one, value) for one, value in zip(held_in(part), values)])
     if part.held:
-        return f"{word_of(shape, part)}_all {terms} {''.join(f'({fact}, ' for fact in facts)}tt{')' * len(facts)}"
-    return f"newtype_variant_some {terms} {facts[0]}"
+        return f"{word_of(shape, part)}_all {terms} {some_facts(part.held, values)}"
+    return f"newtype_variant_some {terms} {part.is_some.format(a=values[0])}"
 
 
 def back_row(level: Level, at: int, shape: Shape, part: Optional[Part], values: list[str]) -> str:
@@ -95,9 +102,7 @@ def back_row(level: Level, at: int, shape: Shape, part: Optional[Part], values: 
     place = f"s {low}_names (codes \"{shape.key}\") {at} refl ({name}Case Is{name} v)"
     if not held:
         return f"bare_row {place} (e, tt)"
-    proofs = [
-        put_in(one.row.format(a=value, fit=fit), h) for one, value, fit, h in zip(held, values, places_of("fit", len(held)), known_parts(part))
-    ]
+    proofs = row_proofs(held, values)
     whole = each(values)
     if part.named:
         of = part.named
@@ -207,19 +212,22 @@ def only_variant(level: Level, at: int, shape: Shape, part: Optional[Part], valu
     return f"  {low}_level_only {made} h fit =\n      {carried(holds, is_, term)}\n"
 
 
-def only_parts(level: Level, part: Part, values: list[str]) -> list[tuple[str, str, str]]:
-    """Of each value, what it is read from and by what two of its type are alike, what only it is read from, and that it is."""
-    parts = []
-    for held, value, fit, h in zip(held_in(part), values, places_of("fit", len(values)), known_parts(part)):
-        fact = f"{reading(level, held)} {same_of(held)}"
-        parts.append((fact, f"(λ k. Only {fact} k {value})", put_in(held.only.format(a=value, fit=fit), h)))
-    return parts
+def facts_of(level: Level, held: Sequence[Part]) -> list[str]:
+    """What each of some values is read from, and by what two of its type are alike."""
+    return [f"{reading(level, of)} {same_of(of)}" for of in held]
+
+
+def only_parts(facts: list[str], held: Sequence[Part], values: list[str]) -> tuple[list[str], list[str]]:
+    """What only each of these values is read from, and that it is."""
+    known = zip(held, values, places_of("fit", len(values)), known_parts(held))
+    return [f"(λ k. Only {fact} k {value})" for fact, value in zip(facts, values)], [put_in(of.only.format(a=value, fit=fit), h) for of, value, fit, h in known]
 
 
 def only_value(level: Level, at: int, shape: Shape, part: Part, values: list[str]) -> tuple[str, str]:
     """What a variant's only value is read from, and that all that is read from it is written alike."""
     of, data = f"(codes \"{shape.key}\")", data_from(part, values[0])
-    [(fact, reads, proof)] = only_parts(level, part, values)
+    [fact] = facts_of(level, [part])
+    [reads], [proof] = only_parts([fact], [part], values)
     row = f"newtype_variant_row s {level.low}_names {of} {at} refl (AtPlace {at} (Content {reads})) ({data})\n      {reads} (λ m p. (refl, p)) ({proof})"
     same = part.alike_by(values[0], "j.0", f"(content_only {fact} {values[0]} j.0 c i j.2)", "fit")
     return row, f"ap (λ d. newtype_variant_of {of} d) ({same})"
@@ -228,7 +236,8 @@ def only_value(level: Level, at: int, shape: Shape, part: Part, values: list[str
 def only_row(level: Level, at: int, shape: Shape, part: Part, values: list[str]) -> tuple[str, str]:
     """The same of several values."""
     start, others = f"s {level.low}_names (codes \"{shape.key}\") {at} refl", inside(part, "j.0")
-    facts, reads, proofs = zip(*only_parts(level, part, values))
+    facts = facts_of(level, part.held)
+    reads, proofs = only_parts(facts, part.held, values)
     row = f"tuple_variant_row {start} (AtPlace {at} (Content (OfRow ({row_reads(reads)})))) _ _ (λ m p. (refl, p))"
     row += f"\n      ({rows([f'{read} _ ({proof})' for read, proof in zip(reads, proofs)])})"
     items = [f"{fact} {value} {other}" for fact, value, other in zip(facts, values, others)]
@@ -240,7 +249,8 @@ def only_row(level: Level, at: int, shape: Shape, part: Part, values: list[str])
 def only_fields(level: Level, at: int, shape: Shape, part: Part, values: list[str]) -> tuple[str, str]:
     """The same of fields with names."""
     names, others = f"{part.named.low}_names", inside(part, "j.0")
-    facts, reads, proofs = zip(*only_parts(level, part, values))
+    facts = facts_of(level, part.held)
+    reads, proofs = only_parts(facts, part.held, values)
     holds = chained([f"Field {read} ⊥" for read in reads], "NoField")
     row = f"struct_variant_row s {level.low}_names (codes \"{shape.key}\") {at} refl (AtPlace {at} (Content (OfFields {names} ({holds})))) {names} _ _ refl"
     row += f" (λ m p. (refl, p))\n      ({field_rows(shape.fields, reads, ['⊥'] * len(reads), proofs)})"

@@ -3,7 +3,7 @@ from __future__ import annotations
 
 from declarations import quoted
 from derived_terms import nested, place_of
-from recursive_holder_answers import answer, answers_file, goals_of, held_answers, left_under, loop_measures, measures_file
+from recursive_holder_answers import answer, goals_of, left_under, loop_measures
 from recursive_leaves import put_in
 from recursive_levels import Again, Content, Level, after_held, brought_in, each
 from recursive_struct_proofs import slots_of
@@ -179,10 +179,6 @@ def struct_answers(level: Level) -> str:
     return text + "".join(missing_answer(level, at) for at in range(len(level.fields))) + end_answers(level)
 
 
-def reading_answers(level: Level, place: str) -> str:
-    return answers_file(level, place, struct_answers(level) + held_answers(level))
-
-
 def leaf_answers(of: Content, place: str) -> str:
     """How the fields of a variant are read of which each is a leaf: as nested pairs."""
     count = len(of.fields)
@@ -207,13 +203,6 @@ def fields_measures(level: Level) -> str:
     """What holds while fields are read, and what falls."""
     run = f"StructRun g.R.Source {level.low}_names {level.name}Held0 l.initial.fields l.fields {slots_of([f'l.slot{at}' for at in range(len(level.fields))])}"
     return loop_measures(f"{level.reader}-loop-fields", run, "l.fields.left")
-
-
-def reading_measures(level: Level, place: str) -> str:
-    """Fields nest below their struct, and so does an element of a list, unless it is a number out of bytes."""
-    about = "Fields nest below their struct, and so does an element of a list, unless it is a number out of bytes."
-    calls = [part for _, part in level.fields if part.is_lent or not part.is_leaf]
-    return measures_file(level, place, about, "next_value_with", calls, fields_measures(level))
 
 
 def known(level: Level, at: int) -> str:
@@ -263,8 +252,8 @@ returns-clause-value g t c = ok_holds c.end.result _ ({low}_fits_in c.args.self.
     table = {
         "std.proofs.Common": "◌∙◌ refl sym arith",
         "std.proofs.lemmas.Result": "err_from_is_err_and",
-        f"{level.crate}.proofs.Recursion": "ok_holds",
-        f"{level.crate}.specs.Recursion": "all_by",
+        "rmp_recursive.proofs.Parts": "ok_holds",
+        "rmp_recursive.specs.Parts": "all_by",
         "rmp_encode.proofs.Going": "unopened",
         "rmp_encode.proofs.Parts": "rests_at part_memory",
         f"{level.crate}.specs.{level.name}Levels": f"{low}_is_own {low}_fits_in",

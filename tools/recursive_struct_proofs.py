@@ -164,5 +164,5 @@ def proof_tables(level: Level) -> dict[str, str]:
         "rmp_encode.specs.Trees": "byte_of",
         "rmp_encode.proofs.Fields": "structure_no_byte",
         "rmp_decode.proofs.StructRuns": "slot_first slot_later slot_field slot_gap slot_gap_later slot_lacks",
-        f"{level.crate}.proofs.RecursionFields": "first_tree later_tree later_lacks",
+        "rmp_recursive.proofs.Fields": "first_tree later_tree later_lacks",
     }

@@ -2,9 +2,9 @@
 from __future__ import annotations
 
 from derived_terms import chained
-from recursive_leaves import put_in
-from recursive_levels import Again, Level, file_of, reading, same_of
 from recursive_fields import missing, there
+from recursive_levels import Level, file_of, places_of
+from recursive_rounds import both_fields, facts_of, field_rows, only_parts, places_in, row_proofs, some_facts
 from recursive_structs import own_fields, own_pairs
 
 
@@ -13,44 +13,22 @@ def rounds_file(level: Level) -> str:
     return file_of(level, f"{level.name}Rounds", about, back_of(level) + only_of(level))
 
 
-def value_of(level: Level, at: int, of: str) -> str:
-    return f"{of}.{level.fields[at][0].name}"
-
-
-def held(level: Level, at: int) -> str:
-    """What is known of the parts of a field that holds the type again."""
-    places = [place for place, (_, part) in enumerate(level.fields) if isinstance(part, Again)]
-    return "h" if len(places) == 1 else f"h.{places.index(at)}"
-
-
-def fit(level: Level, at: int) -> str:
-    return "fit" if len(level.fields) == 1 else f"fit.{at}"
-
-
-def chain(terms: list[str]) -> str:
-    """The fields' rows."""
-    term = "(fields_none s)"
-    for row in reversed(terms):
-        term = f"({row} {term})"
-    return term
+def values_of(level: Level, of: str) -> list[str]:
+    """The fields of a value, which has them in this term."""
+    return [f"{of}.{field.name}" for field, _ in level.fields]
 
 
 def back_of(level: Level) -> str:
     """No value is refused; what it lowers to is read as it; and it is never nil."""
     name, low, own = level.name, level.low, level.own()
-    some, rows = [], []
-    for at, (field, part) in enumerate(level.fields):
-        value = value_of(level, at, own)
-        words = {"h": held(level, at)} if isinstance(part, Again) else {}
-        some.append(put_in(part.is_some.format(a=value), words))
-        row = put_in(part.row.format(a=value, fit=fit(level, at)), words)
-        rows.append(f'fields_cons s (codes "{field.key}") _ _ _ {there(level, at, f"Is{name}", own)} {missing(level, at, own)} _ ({row})')
-    facts = "".join(f"({term}, " for term in some) + "tt" + ")" * len(some)
+    fields, parts = zip(*level.fields)
+    reads, absent = zip(*((there(level, at, f"Is{name}", own), missing(level, at, own)) for at in range(len(fields))))
+    rows = field_rows(fields, reads, absent, row_proofs(parts, values_of(level, own)))
     return f"""
 -- ---- no value is refused
 
 pub {low}_some : (v : {name}) → IsSome ({low}_data v)
-{low}_some = {low}_induction (λ v. IsSome ({low}_data v)) (λ v h. subst IsSome (sym ({low}_is_own v)) (structure_all {own_pairs(level, own)} {facts}))
+{low}_some = {low}_induction (λ v. IsSome ({low}_data v)) (λ v h. subst IsSome (sym ({low}_is_own v)) (structure_all {own_pairs(level, own)} {some_facts(parts, values_of(level, own))}))
 
 module _ (s : Settings) where
   -- ---- it is never nil
@@ -72,40 +50,19 @@ module _ (s : Settings) where
       subst (λ d. LowersTo s d (λ m. Is{name} m v)) (sym ({low}_is_own v))
       (lowers_as s ({low}_own {own}) (λ m. {name}Read m v) (λ m. Is{name} m v) ({low}_made v)
       (structure_row s {low}_names {own_pairs(level, own)} (λ fs. {name}Fields Is{name} fs v) refl
-      {chain(rows)})))
+      ({rows}))))
 """
-
-
-def alike(level: Level, at: int, fact: str) -> str:
-    """That they are written alike."""
-    part = level.fields[at][1]
-    value, other = (value_of(level, at, f"(out-{level.name} {of})") for of in "vw")
-    return f"({part.alike_by(value, other, fact, fit(level, at))}) i"
-
-
-def collected(level: Level) -> str:
-    """What two readings of the same fields say of each."""
-    count, term = len(level.fields), ""
-    for at in range(count - 1, -1, -1):
-        part = level.fields[at][1]
-        value, other = (value_of(level, at, f"(out-{level.name} {of})") for of in "vw")
-        start = f"{reading(level, part)} {same_of(part)} {value} {other} _"
-        term = f"(last_field {start})" if at == count - 1 else f"(field_only {start} _ _ _ {term})"
-    places = ["x" + ".1" * at + ".0" * (at < count - 1) for at in range(count)]
-    data = [alike(level, at, f"({place})") for at, place in enumerate(places)]
-    return f"(λ fs i j. let x = {term[1:-1]} fs i j in (λ i. structure_of ({own_fields(level, data)})))"
 
 
 def only_of(level: Level) -> str:
     """Nothing else is read of what a value lowers to."""
     name, low, own = level.name, level.low, level.own()
-    holds, rows = [], []
-    for at, (field, part) in enumerate(level.fields):
-        value = value_of(level, at, own)
-        only = f"(λ k. Only {reading(level, part)} {same_of(part)} k {value})"
-        proof = put_in(part.only.format(a=value, fit=fit(level, at)), {"h": held(level, at)} if isinstance(part, Again) else {})
-        holds.append(f"Field {only} ⊥")
-        rows.append(f'fields_cons s (codes "{field.key}") _ _ _ {only} ⊥ _ ({proof})')
+    fields, parts = zip(*level.fields)
+    values, others = (values_of(level, f"(out-{name} {of})") for of in "vw")
+    facts = facts_of(level, parts)
+    told, proofs = only_parts(facts, parts, values)
+    alike = [f"({part.alike_by(*it)}) i" for part, *it in zip(parts, values, others, [f"({it})" for it in places_in("x", len(parts))], places_of("fit", len(parts)))]
+    both = f"(λ fs i j. let x = {both_fields(facts, values, others)} fs i j in (λ i. structure_of ({own_fields(level, alike)})))"
     return f"""
 -- ---- values of the same content are written alike
 
@@ -121,8 +78,8 @@ module _ (s : Settings) where
       let fit = {low}_fits_out v fits in
       subst (λ d. LowersTo s d (λ m. Only Is{name} Same{name} m v)) (sym ({low}_is_own v))
       (lowers_then s ({low}_own {own}) _ (λ m. Only Is{name} Same{name} m v)
-      (structure_row s {low}_names {own_pairs(level, own)} ({chained(holds, 'NoField')}) refl
-      {chain(rows)})
+      (structure_row s {low}_names {own_pairs(level, own)} ({chained([f'Field {it} ⊥' for it in told], 'NoField')}) refl
+      ({field_rows(fields, told, ['⊥'] * len(fields), proofs)}))
       (λ m q w r. {low}_is_own v ∙ (fields_both {low}_names _ (λ fs. {name}Fields Is{name} fs w) ({low}_own {own} ≡ {low}_own (out-{name} w)) m q ({low}_out m w r)
-      {collected(level)}) ∙ sym ({low}_is_own w))))
+      {both}) ∙ sym ({low}_is_own w))))
 """

@@ -9,10 +9,14 @@ import re
 from typing import Optional
 
 RULES = "lowercase UPPERCASE PascalCase camelCase snake_case SCREAMING_SNAKE_CASE kebab-case SCREAMING-KEBAB-CASE".split()
-ITEM = re.compile(r'\s*(\w+)\s*(?:=\s*("(?:[^"\\]|\\.)*"|\'[^\']+\'|-?[0-9_]+|[A-Za-z_][\w:]*))?\s*(,|$)')
-WORDS = ("rename", "rename_all", "rename_all_fields", "default", "round_trip")
-# What serde has for names, for fields that are missing, and for other formats, and is written by hand here.
-BY_HAND = "docs/OWN_TYPES.md has the way to write such a type by hand"
+ITEM = re.compile(r"\s*(\w+)\s*(?:=\s*(.*\S))?\s*", re.S)
+# Values of words: texts, characters, numbers, names, and what is made of these.
+VALUE = re.compile(r""""(?:[^"\\]|\\.)*"|'[^']+'|[-\w.:+]+|[\w:]*[(\[{].*[)\]}]""", re.S)
+# What a list of words is made of: texts and characters, in which nothing else has a meaning, and single signs.
+PIECE = re.compile(r""""(?:[^"\\]|\\.)*"|'[^']+'|.""", re.S)
+WORDS = ("rename", "rename_all", "rename_all_fields", "default", "skip", "round_trip")
+# Those that have no value.
+FLAGS = ("skip", "round_trip")
 
 
 class BadNote(Exception):
@@ -28,6 +32,8 @@ class Notes:
         self.rename_all_fields: Optional[str] = None
         # What is after the word, or nothing.
         self.default: Optional[str] = None
+        # Whether the field is neither written nor read.
+        self.skip: Optional[bool] = None
         # Whether the law is derived though a half is written by hand.
         self.round_trip: Optional[bool] = None
 
@@ -35,16 +41,17 @@ class Notes:
         """Takes what one note says."""
         for word, value in items(text):
             if word not in WORDS:
-                raise BadNote(f"`{word}` is not derived: {BY_HAND}" if word in SERDE else f"`{word}` is no word of a `derive:` line")
+                no_word = f"`{word}` is no word of a `derive:` line: there are {', '.join(WORDS)}"
+                raise BadNote(f"`{word}` is not derived: {SERDE[word]}" if word in SERDE else no_word)
             if getattr(self, word) is not None:
                 raise BadNote(f"`{word}` is there twice")
             if word == "default":
                 self.default = value or ""
                 continue
-            if word == "round_trip":
+            if word in FLAGS:
                 if value:
-                    raise BadNote("`round_trip` has no value")
-                self.round_trip = True
+                    raise BadNote(f"`{word}` has no value")
+                setattr(self, word, True)
                 continue
             if not value or not value.startswith('"'):
                 raise BadNote(f'`{word}` wants a text, as `{word} = "{RULES[3] if word != "rename" else "id"}"`')
@@ -57,9 +64,28 @@ class Notes:
                 raise BadNote(f"`{word}` has no meaning here")
 
 
-SERDE = set("alias skip skip_serializing skip_deserializing skip_serializing_if flatten tag content untagged deny_unknown_fields with serialize_with"
-            " deserialize_with bound borrow from into try_from other transparent remote getter crate expecting variant_identifier"
-            " field_identifier".split())
+# What is written in place of the other words of serde.
+UNUSED = "take it out"
+SERDE = {
+    "alias": "one name is read: declare the type once more with the other, and read that where this one is refused",
+    "skip_serializing": "each field is written: make it an Option, and set it to None",
+    "skip_deserializing": "each field is read: write // derive: default, and a map may be without it",
+    "skip_serializing_if": "each field is written: take it out, and None is written as nil",
+    "flatten": "write the fields of the other struct here, or that struct as one field",
+    "tag": "take it out, and a variant is its name, or a map from its name to its content",
+    "content": "take it out, and a variant is its name, or a map from its name to its content",
+    "untagged": "take it out, or read a Value, and see of which kind it is",
+    "deny_unknown_fields": "take it out, and fields of other names are skipped",
+    "with": "write a type of your own for the field, or ByteBuf for serde_bytes",
+    "serialize_with": "write a type of your own for the field",
+    "deserialize_with": "write a type of your own for the field",
+    "from": "derive the type that it is made from, and make it in code",
+    "into": "derive the type that is made of it, and make that in code",
+    "try_from": "derive the type that it is made from, and make it in code",
+    "transparent": "write a struct of one field without a name, as struct Id(u64)",
+    "other": "take it out, and a variant of another name is refused",
+}
+SERDE |= dict.fromkeys("bound borrow remote getter crate expecting variant_identifier field_identifier".split(), UNUSED)
 
 
 def checked(word: str, value: str) -> str:
@@ -72,33 +98,47 @@ def checked(word: str, value: str) -> str:
     return value
 
 
+def listed(text: str) -> list[str]:
+    """The parts of a list, at the commas outside of brackets and texts."""
+    parts, depth = [""], 0
+    for piece in PIECE.findall(text):
+        depth += (piece in "([{") - (piece in ")]}")
+        if piece == "," and not depth:
+            parts.append("")
+        else:
+            parts[-1] += piece
+    return parts if parts[-1].strip() else parts[:-1]
+
+
 def items(text: str) -> list[tuple[str, Optional[str]]]:
     """The words of a note or of an attribute, each with its value."""
-    found, at = [], 0
-    while at < len(text):
-        item = ITEM.match(text, at)
-        if not item:
-            raise BadNote(f"`{text[at:].strip()}` isn't read")
+    found = []
+    for part in listed(text):
+        item = ITEM.fullmatch(part)
+        if not item or item[2] and not VALUE.fullmatch(item[2]):
+            raise BadNote(f"`{part.strip()}` isn't read")
         found.append((item[1], item[2]))
-        at = item.end()
     return found
 
 
 def in_place_of(attribute: str, what: str) -> str:
-    """What is written in place of an attribute of serde."""
+    """What is written in place of an attribute."""
     inner = re.fullmatch(r"#\s*\[\s*serde\s*\((.*)\)\s*\]", attribute, re.S)
     if not inner:
-        return f"an attribute of {what} isn't read: {attribute}"
+        return f"an attribute of {what} isn't read: take out {attribute}"
     try:
         words = items(inner[1])
     except BadNote:
-        words = []
-    if [word for word, _ in words] == ["default"]:
-        return f"in place of {attribute} write // derive: default, or // derive: default = LIMIT for a constant"
-    if words and all(word in WORDS and value for word, value in words):
-        return f"in place of {attribute} write // derive: {inner[1].strip()}"
+        return f'{attribute} isn\'t read: one name is written and read, as // derive: rename = "id"'
     bad = next((word for word, _ in words if word not in WORDS), None)
-    return f"{attribute} isn't read: {f'`{bad}` is not derived, and ' if bad else ''}{BY_HAND}"
+    if bad:
+        return f"`{bad}` of {attribute} is not derived: {SERDE.get(bad, UNUSED)}"
+    default = dict(words).get("default", "")
+    if what == "a type" and default is None:
+        return f"in place of {attribute} write // derive: default above each field that a map may be without"
+    if default:
+        return f"in place of {attribute} write // derive: default = VALUE, with the value that {default[1:-1]} returns, or a constant"
+    return f"in place of {attribute} write // derive: {inner[1].strip()}"
 
 
 def field(rule: Optional[str], name: str) -> str:

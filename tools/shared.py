@@ -2,6 +2,7 @@
 from __future__ import annotations
 
 import dataclasses
+import re
 from collections.abc import Iterable
 
 from imports import has_word
@@ -36,6 +37,16 @@ def tuple_of(parts: list[str]) -> str:
 def bounded(kinds: Iterable[str], bound: str) -> str:
     """Type parameters with a bound."""
     return ", ".join(f"{kind}: {bound}" for kind in kinds)
+
+
+def underscored(name: str) -> str:
+    """A type's name as that of a module."""
+    return re.sub(r"(?<=[a-z0-9])(?=[A-Z])", "_", name).lower()
+
+
+def variants_as(name: str) -> str:
+    """What the variants of an enum of this name are called by in terms."""
+    return f"the_{underscored(name)}"
 
 
 def numbered(word: str, at: int) -> str:

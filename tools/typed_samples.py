@@ -42,7 +42,8 @@ HOMES = {
     "rmp_serde::wire": "ByteBuf Bytes Ext F32Bits F64Bits",
     "std::collections": "BTreeMap BTreeSet VecDeque",
     "test_derived": "Dog Four Newtype Opt Two Unit V12",
-    "test_recursive": "Nested Rose Tree",
+    "test_nodes": "Rose",
+    "test_recursive": "Nested Tree",
     "test_types": "TupleS TupleS0 UnkMap UnkSeq",
 }
 HOME = {name: home for home, names in HOMES.items() for name in names.split()}

@@ -15,7 +15,7 @@ extern "C" {
 enum {
     RMP_OK = 0,
     RMP_END = 1,           /* the input ends where a message should begin */
-    RMP_CUT = 2,           /* the input ends inside a head or its payload */
+    RMP_CUT = 2,           /* the input ends inside a message: inside a head or its payload, or for rmp_skip anywhere */
     RMP_RESERVED = 3,      /* the byte c1, which begins no message */
     RMP_NOT_CANONICAL = 4, /* a head that isn't the canonical one */
     RMP_NOT_UTF8 = 5,      /* a text that isn't UTF-8 */
@@ -35,7 +35,7 @@ static inline const char *rmp_text(uint32_t status)
     switch (status) {
     case RMP_OK: return "ok";
     case RMP_END: return "the input ends where a message should begin";
-    case RMP_CUT: return "the input ends inside a head or its payload";
+    case RMP_CUT: return "the input ends inside a message";
     case RMP_RESERVED: return "the byte c1, which begins no message";
     case RMP_NOT_CANONICAL: return "a head that isn't the canonical one";
     case RMP_NOT_UTF8: return "a text that isn't UTF-8";
@@ -78,6 +78,11 @@ typedef struct {
 /* Reads the head at the offset `at`. The next message is at `item->start + item->len`: for a list or a map, its first element or key.
  * RMP_END, RMP_CUT or RMP_RESERVED: no whole head with its payload is there, and `*item` is unchanged. */
 uint32_t rmp_next(const uint8_t *bytes, size_t len, size_t at, rmp_item *item);
+
+/* Finds where the message at the offset `at` ends. RMP_OK: `*next` is the offset after it. RMP_END: no byte is at `at`. RMP_CUT: the bytes
+ * end inside the message. RMP_RESERVED: the byte c1 is in the place of a message. Except for RMP_OK, `*next` is unchanged. Lists and maps
+ * may nest to any depth, and texts needn't be UTF-8. */
+uint32_t rmp_skip(const uint8_t *bytes, size_t len, size_t at, size_t *next);
 
 /* Whether the bytes begin with the canonical encoding of a message. RMP_OK: `*place` is its length. RMP_NOT_CANONICAL: `*place` is the
  * offset of the first head that isn't canonical. RMP_END, RMP_CUT or RMP_RESERVED comes before that, and `*place` is unchanged. */
@@ -127,6 +132,11 @@ uint32_t rmp_put_map(uint8_t *out, size_t room, size_t *at, uint32_t len);
 uint32_t rmp_put_str(uint8_t *out, size_t room, size_t *at, const uint8_t *payload, size_t len);
 uint32_t rmp_put_bin(uint8_t *out, size_t room, size_t *at, const uint8_t *payload, size_t len);
 uint32_t rmp_put_ext(uint8_t *out, size_t room, size_t *at, int8_t tag, const uint8_t *payload, size_t len);
+
+/* Finds the part of a message that the offset is in, and puts the path to it into `out`, as the rmp_put_ calls do: a text as `.origin.pid` or
+ * `.tags[1]` with no zero after it, for the whole message of no byte. `*place` is the offset where the part begins. The bytes are a message, or
+ * several that follow one another; from where they are cut or wrong on, it is the part that is. RMP_NO_MEMORY: nothing changes. */
+uint32_t rmp_path(const uint8_t *bytes, size_t len, size_t offset, uint8_t *out, size_t room, size_t *at, size_t *place);
 
 static inline uint32_t rmp_put_f32(uint8_t *out, size_t room, size_t *at, float number)
 {

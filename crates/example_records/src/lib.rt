@@ -3,4 +3,4 @@
 
 mod records;
 
-pub use records::{Records, Tail, next_record, replay, tail_of};
+pub use records::{Records, Tail, explain_tail, next_record, replay, tail_of};

@@ -1,17 +1,21 @@
 //! The records.
-ghost use Rattle.std.specs.Prelude.{◌≡◌, ◌≢◌, ◌↔◌, ◌<◌, ◌++◌, List, ℕ, [], ◌∷◌, OnErr, OnOk, IfOk, IfErr, All, Some, length};
+ghost use Rattle.std.specs.Prelude.{◌≡◌, ◌≢◌, ◌↔◌, ◌<◌, ◌++◌, List, ℕ, [], ◌∷◌, OnErr, OnOk, IfOk, IfErr, IfSome, All, Some, None, length};
 ghost use Rattle.example_records.specs.Held.{held, written, IsRecord, IsCut, is_memory};
 ghost use Rattle.rmp_wire.specs.Msg.{Msg, depth};
-ghost use Rattle.rmp_wire.specs.Spelling.{Fits};
+ghost use Rattle.rmp_wire.specs.Spelling.{Fits, Spells};
 ghost use Rattle.rmp_decode.specs.Exact.{IsEnd};
+ghost use Rattle.rmp_decode.specs.Law.{Begins, Readable};
 ghost use Rattle.rmp_encode.specs.Calls.{default_settings, ToVecFails};
 ghost use Rattle.rmp_encode.specs.Trees.{tree_of};
 ghost use Rattle.rmp_scan.specs.Scans.{IsBeginning};
-ghost use Rattle.rmp_serde.specs.Read.{AllTextsUtf8};
+ghost use Rattle.rmp_serde.specs.Explaining.{Explains, error_in};
+ghost use Rattle.rmp_serde.specs.Read.{AllTextsUtf8, reads_value};
 ghost use Rattle.rmp_serde.specs.ValueData.{value_data};
 
 use rmp_serde::decode::Error;
-use rmp_serde::{Deserializer, Value, encode, laws, message_len, to_vec};
+use rmp_serde::{
+    Deserializer, Explained, Value, encode, from_slice_explained, laws, message_len, to_vec,
+};
 use std::alloc::Global;
 
 /// The content of a log file.
@@ -134,6 +138,20 @@ pub fn tail_of(rest: &[u8]) -> Tail
         Ok(None) => Tail::Cut,
         Ok(Some(_)) => Tail::Broken,
         Err(_) => Tail::Broken,
+    }
+}
+
+/// Explains for a log why the bytes that `replay` leaves begin with no record. `None`: they begin with one.
+pub fn explain_tail(alloc: Global, rest: &[u8]) -> Option<Explained>
+    // The line names the part that is wrong,
+    ensures explained { IfSome result (λ e. (position : ℕ) × (levels : ℕ) × Explains rest.now position levels (error_in e) e) }
+    // and there is no record, or memory ran out.
+    ensures some { IfSome result (λ e. error_in e ≢ Error.OutOfMemory → Begins Spells (Readable reads_value) 1024 rest.now → ⊥) }
+    ensures none { result ≡ None → Begins Spells (Readable reads_value) 1024 rest.now }
+{
+    match from_slice_explained::<Value>(alloc, rest) {
+        Ok(_) => None,
+        Err(refused) => Some(refused),
     }
 }
 

@@ -8,10 +8,12 @@ mod failure;
 mod files;
 mod hostile;
 mod input;
+mod made;
 mod pieces;
 mod reading;
 mod settings;
 mod sources;
+mod times;
 
 use failure::Failure;
 use reading::Reading;
@@ -56,7 +58,14 @@ fn main(rt: HostRuntime) -> Result<(), Failure> {
     )?;
     println!(rt; "{:?}", bytes::spellings(alloc)?)?;
     println!(rt; "{:?}", settings::maps(alloc, readings.as_slice())?)?;
+    if let Some(first) = readings.first() {
+        println!(rt; "{}", made::noted(alloc, "cold", first)?.readable())?;
+    }
     println!(rt; "{:?}", hostile::careful(alloc, b"\x91\x91\xc0")?)?;
     println!(rt; "{:?}", hostile::careful(alloc, b"\x91\x91\xc0\xc0")?)?;
+    if let Some(logged) = times::write_event(alloc, 1_767_225_600, 500_000_000, "started")? {
+        println!(rt; "{logged:?}")?;
+        println!(rt; "{:?}", times::read_event(alloc, logged.as_slice())?)?;
+    }
     input::print_all(&rt)
 }

@@ -1,5 +1,6 @@
 pub mod HeadBytes
 pub mod Items
+pub mod PathTexts
 pub mod Pieces
 pub mod Puts
 pub mod Respelled

@@ -6,6 +6,8 @@
 mod canonical;
 mod check;
 mod head;
+mod path;
 mod put;
 mod scan;
+mod skip;
 mod walk;

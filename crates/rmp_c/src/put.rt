@@ -174,7 +174,7 @@ fn put_head(out: &mut [u8], at: &mut usize, head: Head) -> u32
 }
 
 // Puts a head and its payload.
-fn put(out: &mut [u8], at: &mut usize, head: &[u8], payload: &[u8]) -> u32
+pub(crate) fn put(out: &mut [u8], at: &mut usize, head: &[u8], payload: &[u8]) -> u32
     ensures written { result ≡ 0 → IsPut (head.now ++ payload.now) at.old at.new out.old out.new }
     ensures short { result ≡ 8 → NoRoom (head.now ++ payload.now) at.old at.new (length out.old) }
     ensures kept { result ≢ 0 → out.new ≡ out.old }

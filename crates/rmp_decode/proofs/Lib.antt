@@ -60,7 +60,6 @@ pub mod SkipLoop
 pub mod SourceReads
 pub mod Steps
 pub mod StructRuns
-pub mod StructVariantRuns
 pub mod StructVariants
 pub mod Structs
 pub mod Tuples

@@ -2,7 +2,7 @@
 use Rattle.std.proofs.Common.{◌≡◌, ◌∙◌, ap, subst, false, ℕ, List, Option, None, Some, Result, Ok, Err, IfOk, IfErr}
 use Rattle.std.specs.Prelude.{IfSome}
 use Rattle.std.specs.Io.KnownBytes.{Consumes, prepend_known}
-use Rattle.rmp_wire.specs.declared.slice.copying.ReadReader.{ReadReader}
+use Rattle.rmp_wire.specs.declared.slice.read_reader.ReadReader.{ReadReader}
 use Rattle.rmp_wire.specs.declared.source.Source.{Ghosts}
 use Rattle.rmp_wire.specs.Canonical.{SpellsAs}
 use Rattle.rmp_wire.specs.Copying.{copied_from}

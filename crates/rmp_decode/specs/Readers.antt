@@ -1,7 +1,7 @@
 -- What a reader over a source shows, and what a read of a source's beginning says.
 use Rattle.std.specs.Prelude.{◌≡◌, ℕ, ◌<◌, false, List}
 use Rattle.std.specs.Io.KnownBytes.{Consumes}
-use Rattle.rmp_wire.specs.declared.slice.copying.ReadReader.{ReadReader}
+use Rattle.rmp_wire.specs.declared.slice.read_reader.ReadReader.{ReadReader}
 use Rattle.rmp_wire.specs.declared.source.Source.{Ghosts}
 use Rattle.rmp_wire.specs.Copying.{copied_from, copying_with}
 use Rattle.rmp_wire.specs.Msg.{Msg, depth}

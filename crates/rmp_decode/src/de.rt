@@ -234,8 +234,8 @@ pub fn read<'de, R: Source + Drop, T: Deserialize<'de, ReadReader<R>>>(
     read_moved::<R, T, ByType<'de>>(alloc, rd)
 }
 
-/// Reads a value from the beginning of what a source gives. Of a source that is used again, `read` promises what is
-/// left.
+/// Reads a value from the beginning of what a source gives; for a source that is used again call `read`, which
+/// promises what is left.
 ///
 /// # Errors
 /// Unless the source failed, any error but `OutOfMemory` means that what it gives doesn't begin with the encoding of a

@@ -8,7 +8,7 @@ ghost use Rattle.rmp_decode.specs.Next.{FindsNext, IsThere, NextRead, RefusesNex
 ghost use Rattle.rmp_decode.specs.Refusing.{RefusesAs};
 ghost use Rattle.std.specs.Borrow.{sem, follows};
 ghost use Rattle.std.specs.Io.Cursor.{cursor_position};
-ghost use Rattle.rmp_wire.specs.contracts.slice.copying.ReadReader.{the_row as reader_row};
+ghost use Rattle.rmp_wire.specs.contracts.slice.read_reader.ReadReader.{the_row as reader_row};
 ghost use Rattle.rmp_decode.specs.contracts.deserializer.Deserializer.{the_row};
 ghost use Rattle.rmp_decode.specs.Readers.{source_of, reading_with};
 

@@ -6,7 +6,7 @@ use Rattle.std.specs.declared.alloc.Global.{Global}
 use Rattle.rmp_wire.specs.Msg.{Msg}
 use Rattle.rmp_wire.specs.declared.sink.Sink.{Ghosts}
 use Rattle.rmp_encode.specs.declared.serializer.Serializer.{Serializer}
-use Rattle.rmp_encode.specs.declared.series.MaybeUnknownLengthCompound.{MaybeUnknownLengthCompound}
+use Rattle.rmp_encode.specs.declared.unknown_length.MaybeUnknownLengthCompound.{MaybeUnknownLengthCompound}
 use Rattle.rmp_encode.specs.Data.{Data}
 use Rattle.rmp_encode.specs.Going.{AreMany, head_at, IsWriting, IsKeepingAt}
 use Rattle.rmp_encode.specs.Markers.{no_fault}

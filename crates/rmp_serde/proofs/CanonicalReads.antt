@@ -53,6 +53,10 @@ module _ {V : Type 0} (reads : Msg → V → Type 0) (same : V → V → Type 0)
         holds = (v, r.holds);
       }
 
+  -- a value was read
+  pub readable : (v : V) (room : ℕ) → Begins IsCanonical (λ m. reads m v) room input → Begins IsCanonical (Readable reads) room input
+  readable v room r = record { bytes = r.bytes; rest = r.rest; tree = r.tree; front = r.front; spelled = r.spelled; fits = r.fits; holds = (v, r.holds) }
+
   -- what was read instead has its content
   pub read_same : (v w : V) (room : ℕ) → LowersTo s (lowered v) (λ m. Only reads same m v) → IsSpelled (tree_of s (lowered v)) input
       → Begins IsCanonical (λ m. reads m w) room input → same v w

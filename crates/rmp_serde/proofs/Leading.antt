@@ -45,7 +45,7 @@ tokens_turned : (ps : Pairs) → tokens_all (in_turn ps) ≡ tokens_pairs ps
 tokens_turned no_pairs = refl
 tokens_turned (pair k v ps) = ap (λ z. tokens k ++ (tokens v ++ z)) (tokens_turned ps)
 
-turned_utf8 : (ps : Pairs) → PairsUtf8 ps → ItemsUtf8 (in_turn ps)
+pub turned_utf8 : (ps : Pairs) → PairsUtf8 ps → ItemsUtf8 (in_turn ps)
 turned_utf8 no_pairs u = tt
 turned_utf8 (pair k v ps) u = (u.0, (u.1, turned_utf8 ps u.2))
 

@@ -12,7 +12,7 @@ use Rattle.rmp_serde.specs.declared.value.flat.Node.{Node}
 use Rattle.rmp_serde.specs.declared.value.flat.Nodes.{Nodes}
 use Rattle.rmp_serde.proofs.FlatParts.{heads_told}
 
-token_at : (b : List ℕ) (row : List Node) (i : ℕ) (node : Node) (d : Token) → i < length row → node ≡ get_or row i node
+pub token_at : (b : List ℕ) (row : List Node) (i : ℕ) (node : Node) (d : Token) → i < length row → node ≡ get_or row i node
     → get_or (heads_in b row) i d ≡ token_in b node
 token_at b [] i node d l e = absurd (omega (arith, l))
 token_at b (first ∷ row) zero node d l e = ap (token_in b) (sym e)

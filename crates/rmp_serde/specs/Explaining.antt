@@ -12,6 +12,9 @@ use Rattle.rmp_serde.specs.declared.path.Path.{Path}
 abbrev pub error_in : Explained → Error
 error_in e = e.error
 
+abbrev pub position_in : Explained → ℕ
+position_in e = e.position
+
 abbrev pub path_in : Explained → Option Path
 path_in e = e.path
 

@@ -39,6 +39,9 @@ pub mod Equal
 pub mod EqualLaws
 pub mod Explaining
 pub mod Flat
+pub mod Found
+pub mod Keys
+pub mod Making
 pub mod OpenParts
 pub mod OpenReadable
 pub mod PairsLeft

@@ -1,5 +1,5 @@
 -- The parts of a tree.
-use Rattle.std.specs.Prelude.{ℕ, suc, ◌*◌, ℤ, Bool, List, [], Option, Some, None, slice_get}
+use Rattle.std.specs.Prelude.{ℕ, suc, ◌*◌, ◌^◌, nat_lt, ℤ, pos, negsuc, Bool, if◌then◌else◌, List, [], Option, Some, None, slice_get}
 use Rattle.rmp_wire.specs.Msg.{Msg, nil, truth, whole, float32, float64, text, bin, list, map, extension, Msgs, count, count_pairs, items_of, pairs_of}
 use Rattle.rmp_serde.specs.Tokens.{flat_pairs, first_tree, row_from}
 use Rattle.rmp_serde.specs.declared.value.kind.Kind.{Kind}
@@ -37,6 +37,17 @@ truth_of _ = None
 abbrev pub whole_of : Msg → Option ℤ
 whole_of (whole z) = Some z
 whole_of _ = None
+
+-- a number from 0 on; in a value it is below 2^64
+abbrev pub natural_of : Msg → Option ℕ
+natural_of (whole (pos n)) = Some n
+natural_of _ = None
+
+-- a number below 2^63; in a value one below 0 is from -2^63 on
+abbrev pub signed_of : Msg → Option ℤ
+signed_of (whole (pos n)) = if nat_lt n (2 ^ 63) then Some (pos n) else None
+signed_of (whole (negsuc n)) = Some (negsuc n)
+signed_of _ = None
 
 -- the bits of a 32-bit float
 abbrev pub float32_of : Msg → Option ℕ

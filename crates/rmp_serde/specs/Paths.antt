@@ -1,5 +1,8 @@
 -- The path from a message to one of its parts, as people read it.
-use Rattle.std.specs.Prelude.{◌≡◌, ℕ, suc, ◌+◌, ◌*◌, ◌-◌, ◌<◌, ◌≤◌, List, [], ◌∷◌, length, take, drop, Option, None, true, false}
+use Rattle.std.specs.Prelude.{◌≡◌, ◌==◌, ℕ, suc, ◌+◌, ◌*◌, ◌-◌, ◌<◌, ◌≤◌, List, [], ◌∷◌, ◌++◌, length, take, drop, flat_map, codes, decimal}
+use Rattle.std.specs.Prelude.{Option, None, Bool, true, false, nat_lt, ◌&&◌, ◌||◌, if◌then◌else◌}
+use Rattle.std.specs.Char.{is_ascii_alphanumeric}
+use Rattle.std.specs.List.{list_all}
 use Rattle.std.specs.String.{string_bytes}
 use Rattle.rmp_wire.specs.Msg.{Msg, text}
 use Rattle.rmp_wire.specs.Spelling.{Spells}
@@ -8,6 +11,7 @@ use Rattle.rmp_path.specs.Places.{is_map_turn, before_of, start_of_part, start_b
 use Rattle.rmp_path.specs.declared.location.Location.{Location}
 use Rattle.rmp_path.specs.declared.turn.Turn.{Turn}
 use Rattle.rmp_serde.specs.Parts.{text_of}
+use Rattle.rmp_serde.specs.Quoted.{quoted}
 use Rattle.rmp_serde.specs.Read.{reads_value}
 use Rattle.rmp_serde.specs.TreeText.{tree_text}
 use Rattle.rmp_serde.specs.declared.path.Path.{Path}
@@ -56,3 +60,28 @@ pub record IsPathOf (input : List ℕ) (found : Location) (p : Path) : Type 0 wh
   pub message : p.message ≡ found.message
   pub place : p.place ≡ found.place
   pub steps : AreSteps input found.turns.items p.steps.items
+
+-- ---- the text of a path
+
+-- a letter, a digit, `_` or `-`
+abbrev pub is_plain_byte : ℕ → Bool
+is_plain_byte b = is_ascii_alphanumeric b || (b == 95 || b == 45)
+
+-- such bytes alone, and at least one
+abbrev pub is_plain : List ℕ → Bool
+is_plain s = nat_lt 0 (length s) && list_all is_plain_byte s
+
+-- a key that is a text: as it is, or as a JSON string
+abbrev pub key_name : List ℕ → List ℕ
+key_name s = if is_plain s then s else quoted s
+
+abbrev pub step_text : Step → List ℕ
+step_text (step.Index n) = codes "[" ++ decimal n ++ codes "]"
+step_text (step.Key s) = codes "." ++ key_name (string_bytes s)
+step_text (step.Other s) = codes "." ++ string_bytes s
+step_text (step.Value n) = codes "{value " ++ decimal n ++ codes "}"
+step_text (step.KeyOf n) = codes "{key " ++ decimal n ++ codes "}"
+
+-- the texts of its steps, in order
+abbrev pub path_text : Path → List ℕ
+path_text p = flat_map step_text (steps_of p)

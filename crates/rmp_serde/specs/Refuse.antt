@@ -1,5 +1,5 @@
 -- Why a read of a value is refused, and where.
-use Rattle.std.specs.Prelude.{ℕ, ◌<◌, ◌⊎◌, Bool, List, length, IsUtf8}
+use Rattle.std.specs.Prelude.{◌≡◌, ℕ, ◌<◌, ◌⊎◌, Bool, List, length, IsUtf8}
 use Rattle.rmp_wire.specs.declared.head.Head.{Head}
 use Rattle.rmp_wire.specs.declared.head.Head.TheVariants.{Text}
 use Rattle.rmp_wire.specs.declared.marker.Marker.{Marker}
@@ -10,7 +10,7 @@ use Rattle.rmp_decode.specs.Exact.{BeginsWith}
 use Rattle.rmp_decode.specs.Refuse.{IsWrong, RefusesFirst}
 use Rattle.rmp_decode.specs.declared.deserializer.Deserializer.{Deserializer}
 use Rattle.rmp_decode.specs.declared.error.Error.{Error}
-use Rattle.rmp_decode.specs.declared.error.Error.TheVariants.{OutOfMemory, Utf8Error}
+use Rattle.rmp_decode.specs.declared.error.Error.TheVariants.{NotCanonical, OutOfMemory, Utf8Error}
 use Rattle.rmp_serde.specs.Read.{ItemsUtf8}
 
 -- the bytes begin with a whole text that isn't UTF-8
@@ -37,3 +37,7 @@ UnreadFor strict room e xs = IsWrong strict room e xs
 -- texts are UTF-8.
 abbrev pub RefusesValue : {R C : Type 0} → Ghosts R → Deserializer R C → Deserializer R C → Error → Type 0
 RefusesValue g old new e = RefusesFirst g UnreadFor ItemsUtf8 old new e
+
+-- the error of a value that was read, but is written otherwise, or for which memory ran out
+abbrev pub IsWrittenElse : Error → Type 0
+IsWrittenElse e = (e ≡ NotCanonical) ⊎ (e ≡ OutOfMemory)

@@ -1,12 +1,14 @@
 //! Reads values only from the bytes that are written of them.
-ghost use Rattle.std.specs.Prelude.{◌≡◌, ◌≢◌, ◌<◌, true, false, IfOk, IfErr, MatchResult};
+ghost use Rattle.std.specs.Prelude.{◌≡◌, ◌≢◌, ◌<◌, ◌⊎◌, true, false, Some, IfOk, IfErr, MatchResult};
 ghost use Rattle.rmp_encode.specs.Calls.{default_settings, named_settings, IsSpelled};
 ghost use Rattle.rmp_encode.specs.Trees.{tree_of};
 ghost use Rattle.rmp_encode.specs.declared.error.Error.TheVariants as errors;
-ghost use Rattle.rmp_decode.specs.Law.{Begins};
+ghost use Rattle.rmp_decode.specs.Law.{Begins, Readable};
+ghost use Rattle.rmp_decode.specs.Refusing.{slice_setting};
 ghost use Rattle.rmp_round_trip.specs.RoundTrip.{LowersTo};
 ghost use Rattle.rmp_wire.specs.Canonical.{IsCanonical};
 ghost use Rattle.rmp_wire.specs.Msg.{depth};
+ghost use Rattle.rmp_serde.specs.Refuse.{IsWrittenElse};
 
 use crate::decode::Error;
 use crate::{encode, laws};
@@ -21,8 +23,8 @@ use std::alloc::Global;
 /// for cache keys and signatures.
 ///
 /// # Errors
-/// `NotCanonical` if a value is read, but written otherwise. Any error but `OutOfMemory` means that the input isn't
-/// what is written of a value that nests below the limit.
+/// Those of `from_slice_strict`, and `NotCanonical` if a value is read, but written otherwise. Any error but
+/// `OutOfMemory` means that the input isn't what is written of a value that nests below the limit.
 ///
 /// # Examples
 /// ```
@@ -46,6 +48,9 @@ pub fn from_slice_canonical<'de, T: RoundTrip<'de, ReadRefReader<'de>>>(
     ensures err { IfErr result (λ e. e ≢ Error.OutOfMemory → (v : T) → T.is_value v → ((w : T) → T.same v w → T.data_of w false ≡ T.data_of v false)
         → LowersTo default_settings (T.data_of v false) (λ m. depth m < 1024)
         → IsSpelled (tree_of default_settings (T.data_of v false)) input.now → ⊥) }
+    // It is the strict read's, or of a value that was read: it is written otherwise, or memory ran out.
+    ensures refused { IfErr result (λ e. T.Deserialize.refuses (slice_setting true) 0 0 (Some input.now) e
+        ⊎ (Begins IsCanonical (Readable (T.reads false true)) 1024 input.now × IsWrittenElse e)) }
 {
     laws::values_come_back::<ReadRefReader<'de>, T>();
     let value: T = match from_slice_strict(alloc, input) {
@@ -58,6 +63,9 @@ pub fn from_slice_canonical<'de, T: RoundTrip<'de, ReadRefReader<'de>>>(
 
 /// Reads the value for which `to_vec_named` writes exactly the input: structs are maps from the names of their fields,
 /// in order.
+///
+/// # Errors
+/// Those of `from_slice_canonical`.
 pub fn from_slice_canonical_named<'de, T: RoundTrip<'de, ReadRefReader<'de>>>(
     alloc: Global,
     input: &'de [u8],
@@ -67,6 +75,8 @@ pub fn from_slice_canonical_named<'de, T: RoundTrip<'de, ReadRefReader<'de>>>(
     ensures err { IfErr result (λ e. e ≢ Error.OutOfMemory → (v : T) → T.is_value v → ((w : T) → T.same v w → T.data_of w false ≡ T.data_of v false)
         → LowersTo named_settings (T.data_of v false) (λ m. depth m < 1024)
         → IsSpelled (tree_of named_settings (T.data_of v false)) input.now → ⊥) }
+    ensures refused { IfErr result (λ e. T.Deserialize.refuses (slice_setting true) 0 0 (Some input.now) e
+        ⊎ (Begins IsCanonical (Readable (T.reads false true)) 1024 input.now × IsWrittenElse e)) }
 {
     laws::values_come_back::<ReadRefReader<'de>, T>();
     let value: T = match from_slice_strict(alloc, input) {
@@ -85,6 +95,7 @@ fn if_written<T: Drop>(
 ) -> Result<T, Error>
     ensures ok { IfOk result (λ v. (v ≡ value) × MatchResult written (λ b. b.items ≡ input.now) (λ _. ⊥)) }
     ensures err { IfErr result (λ e. e ≢ Error.OutOfMemory → MatchResult written (λ b. b.items ≢ input.now) (λ e. e ≢ errors.OutOfMemory)) }
+    ensures which { IfErr result IsWrittenElse }
 {
     match written {
         Ok(bytes) => {

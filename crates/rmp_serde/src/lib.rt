@@ -29,4 +29,6 @@ pub use rmp_wire::{
     AheadSource, BufSource, ByteBuf, Bytes, Ext, F32Bits, F64Bits, IoSink, IoSource,
     MSGPACK_EXT_STRUCT_NAME, Marker, Sink, SliceSink, Source, config,
 };
-pub use value::{Kind, Pairs, Parts, Readable, Value, ValueRef};
+pub use value::{
+    Kind, Pairs, Parts, Readable, Value, ValueRef, from_value, to_value, to_value_named,
+};

@@ -1,7 +1,8 @@
 //! The path from a message to one of its parts, for people.
 ghost use Rattle.std.specs.Prelude.{◌≡◌, IfOk};
+ghost use Rattle.std.specs.Fmt.{WritesOnOk};
 ghost use Rattle.rmp_path.specs.Places.{Locates};
-ghost use Rattle.rmp_serde.specs.Paths.{IsPathOf, IsStep, message_of, place_of};
+ghost use Rattle.rmp_serde.specs.Paths.{IsPathOf, IsStep, is_plain, is_plain_byte, key_name, message_of, place_of, steps_of};
 
 use crate::value::Value;
 use crate::value::text::quoted::write_quoted;
@@ -10,7 +11,7 @@ use rmp_path::{Location, Turn, locate};
 use std::alloc::{AllocError, Global};
 use std::fmt;
 
-/// A step from a list or a map into one of its parts.
+/// A step from a list or a map into one of its parts. `Display` prints it as a part of a path.
 #[derive(Debug, Drop)]
 pub enum Step {
     /// Into the element that has so many before it.
@@ -53,7 +54,9 @@ impl Path {
     }
 
     /// Returns the steps from the message to the part.
-    pub fn steps(&self) -> &[Step] {
+    pub fn steps(&self) -> &[Step]
+        ensures { result.now ≡ steps_of self.now }
+    {
         &self.steps
     }
 }
@@ -128,28 +131,59 @@ fn step_of(alloc: Global, input: &[u8], turn: &Turn) -> Result<Step, AllocError>
 }
 
 impl fmt::Display for Path {
+    ghost use Rattle.std.specs.Prelude.{Some};
+    ghost use Rattle.rmp_serde.specs.Paths.{path_text};
+
+    ghost output = { λ p. Some (path_text p) };
+
     fn fmt<W: fmt::Write>(&self, f: &mut fmt::Formatter<W>) -> fmt::Result {
         for step in &self.steps {
-            match step {
-                Step::Index(n) => write!(f, "[{n}]")?,
-                Step::Key(text) if is_plain(text) => write!(f, ".{text}")?,
-                Step::Key(text) => {
-                    f.write_str(".")?;
-                    write_quoted(f, text)?;
-                }
-                Step::Other(text) => write!(f, ".{text}")?,
-                Step::Value(n) => write!(f, "{{value {n}}}")?,
-                Step::KeyOf(n) => write!(f, "{{key {n}}}")?,
-            }
+            write!(f, "{step}")?;
         }
         Ok(())
     }
 }
 
+impl fmt::Display for Step {
+    ghost use Rattle.std.specs.Prelude.{Some};
+    ghost use Rattle.rmp_serde.specs.Paths.{step_text};
+
+    ghost output = { λ s. Some (step_text s) };
+
+    fn fmt<W: fmt::Write>(&self, f: &mut fmt::Formatter<W>) -> fmt::Result {
+        match self {
+            Step::Index(n) => write!(f, "[{n}]"),
+            Step::Key(text) => {
+                f.write_str(".")?;
+                write_key_name(f, text)
+            }
+            Step::Other(text) => write!(f, ".{text}"),
+            Step::Value(n) => write!(f, "{{value {n}}}"),
+            Step::KeyOf(n) => write!(f, "{{key {n}}}"),
+        }
+    }
+}
+
+// Writes a key that is a text.
+fn write_key_name<W: fmt::Write>(f: &mut fmt::Formatter<W>, text: &str) -> fmt::Result
+    ensures writes { WritesOnOk W.write_str_gives f.old result (key_name text.now) f.new }
+{
+    if is_plain(text) {
+        f.write_str(text)
+    } else {
+        write_quoted(f, text)
+    }
+}
+
 // Whether a text has letters, digits, `_` and `-` alone, and at least one.
-fn is_plain(text: &str) -> bool {
-    !text.is_empty()
-        && text
-            .bytes()
-            .all(|b| b.is_ascii_alphanumeric() || b == b'_' || b == b'-')
+fn is_plain(text: &str) -> bool
+    ensures { result ≡ is_plain text.now }
+{
+    !text.is_empty() && text.as_bytes().iter().all(|b| is_plain_byte(*b))
+}
+
+fn is_plain_byte(byte: u8) -> bool
+    ensures { result ≡ is_plain_byte byte }
+{
+    byte.is_ascii_alphanumeric() || byte == b'_' || byte == b'-'
 }

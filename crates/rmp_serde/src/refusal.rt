@@ -7,7 +7,7 @@ ghost use Rattle.rmp_wire.specs.Spelling.{Spells};
 ghost use Rattle.rmp_decode.specs.Law.{Begins, Readable};
 ghost use Rattle.rmp_decode.specs.Refusing.{slice_setting};
 ghost use Rattle.rmp_decode.specs.State.{reader_of, refused_levels};
-ghost use Rattle.rmp_serde.specs.Explaining.{error_in, path_in, Explains, IsInside, Refuses};
+ghost use Rattle.rmp_serde.specs.Explaining.{error_in, path_in, position_in, Explains, IsInside, Refuses};
 
 use crate::path::{Path, path_of};
 use crate::value::Kind;
@@ -57,12 +57,16 @@ impl Explained {
     }
 
     /// Returns the error, as the read returned it.
-    pub fn error(&self) -> &Error {
+    pub fn error(&self) -> &Error
+        ensures { result.now ≡ error_in self.now }
+    {
         &self.error
     }
 
     /// Returns the error, as the read returned it.
-    pub fn into_error(self) -> Error {
+    pub fn into_error(self) -> Error
+        ensures { result ≡ error_in self }
+    {
         self.error
     }
 
@@ -74,7 +78,9 @@ impl Explained {
     }
 
     /// Returns how many bytes the reader had consumed.
-    pub fn position(&self) -> usize {
+    pub fn position(&self) -> usize
+        ensures { result ≡ position_in self.now }
+    {
         self.position
     }
 

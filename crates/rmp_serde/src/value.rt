@@ -1,7 +1,11 @@
 //! A message of any kind, as a tree.
+mod clone;
+mod convert;
 mod equal;
 pub(crate) mod flat;
 mod kind;
+mod leaves;
+mod lists;
 mod read;
 mod reference;
 mod round_trip;
@@ -13,6 +17,7 @@ ghost use Rattle.rmp_wire.specs.Heads.{fits_head};
 ghost use Rattle.rmp_decode.specs.Kinds.{content_len};
 ghost use Rattle.rmp_serde.specs.Flat.{content_at, heads_of, told_tree, IsTree, IsWithin};
 
+pub use convert::{from_value, to_value, to_value_named};
 use flat::{Node, Nodes};
 pub use kind::Kind;
 pub use read::read_value;
@@ -24,7 +29,10 @@ pub use text::Readable;
 /// A message of any kind, as a tree.
 ///
 /// Of `let value: Value = from_slice(alloc, b"\x92\xcd\x00\x05\xc0")?` the `root()` is a list, whose `item(0)`
-/// is the number 5; `to_vec(alloc, &value)` is `92 05 c0`.
+/// is the number 5; `to_vec(alloc, &value)` is `92 05 c0`. `get` finds the value of a key, and `pointer` a part by a
+/// path as `/dogs/0/name`. An equal value is made by
+/// `Value::from_items(alloc, &[Value::from_u64(alloc, 5), Value::nil(alloc)])?`. `to_value` makes one of any type, and
+/// `from_value` reads the type from it.
 ///
 /// Contracts see it as the message tree itself. Each length and number has room in a head (`Fits`), and each
 /// text is UTF-8.

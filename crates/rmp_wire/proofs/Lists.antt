@@ -1,10 +1,10 @@
 -- Items and pairs as lists, and back; and spellings of them, part by part.
-use Rattle.std.proofs.Common.{◌≡◌, ◌∙◌, sym, ap, ℕ, suc, ◌≤◌, List, [], ◌∷◌, ◌++◌, length, refl, append_assoc, map, subst, take}
+use Rattle.std.proofs.Common.{◌≡◌, ◌∙◌, sym, ap, ℕ, suc, List, [], ◌∷◌, ◌++◌, length, refl, append_assoc}
 use Rattle.std.specs.List.{flat_map, AllZip}
-use Rattle.std.proofs.lemmas.List.{map-append, flat_map_more, append-nil, take_all, length-map}
+use Rattle.std.proofs.lemmas.List.{append-nil}
 use Rattle.rmp_wire.specs.Msg.{Msg, list, Msgs, no_items, item, Pairs, no_pairs, pair, count, count_pairs, items_of, msgs, pairs_of, pairs}
 use Rattle.rmp_wire.specs.declared.head.Head.TheVariants.{Array, Map}
-use Rattle.rmp_wire.specs.Heads.{IsHead, canon_head}
+use Rattle.rmp_wire.specs.Heads.{canon_head}
 use Rattle.rmp_wire.specs.Spelling.{canon, canon_all, canon_pairs, Spells, SpellsAll}
 
 pub items_of-msgs : (ms : List Msg) → items_of (msgs ms) ≡ ms

@@ -1,7 +1,7 @@
 -- What a copying reader shows, and what a read leaves.
 use Rattle.std.specs.Prelude.{◌≡◌, ℕ, ◌<◌, ◌≤◌, List, ◌++◌, length, Option}
 use Rattle.std.specs.Io.KnownBytes.{Consumes}
-use Rattle.rmp_wire.specs.declared.slice.copying.ReadReader.{ReadReader}
+use Rattle.rmp_wire.specs.declared.slice.read_reader.ReadReader.{ReadReader}
 
 -- `reader.get_ref()`
 abbrev pub copied_from : {R : Type 0} → ReadReader R → R

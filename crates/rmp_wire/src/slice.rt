@@ -6,11 +6,11 @@ ghost use Rattle.rmp_wire.specs.Slices.{reference_bytes, is_lent, SliceRead};
 ghost use Rattle.rmp_wire.specs.Sources.{IsFront, Skips, Takes, TakesInto};
 ghost use Rattle.rmp_wire.specs.Spelling.{IsBytes};
 
-mod copying;
+mod read_reader;
 
 use crate::error::IoFault;
 use crate::source::Source;
-pub use copying::ReadReader;
+pub use read_reader::ReadReader;
 use std::io;
 use std::io::ErrorKind;
 

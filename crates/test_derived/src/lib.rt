@@ -11,7 +11,7 @@ mod structs;
 mod versions;
 
 pub use called::{older, restocked};
-pub use defaults::{Level, Lists, Once, Server};
+pub use defaults::{Level, Lists, Once, Page, Proxy, Server};
 pub use enums::{Four, Mixed, Two, V12};
 pub use kinds::{Chosen, Either, Guests, Kennel, Pair, Row, Sorted};
 pub use renamed::{Parcel, Way};

@@ -14,7 +14,7 @@ use Rattle.test_json.specs.declared.dirs.Menu.{Menu}
 use Rattle.test_json.specs.declared.dirs.Menu.TheOpen.{Menu-F}
 use Rattle.test_json.specs.MenuLevels.{IsMenu, MenuPartFrom0, MenuPartFrom1, MenuPartFrom2, MenuPartFields, menu_level, menu_data, menu_is}
 use Rattle.rmp_decode.proofs.StructRuns.{slot_first, slot_later, slot_field, slot_gap, slot_gap_later, slot_lacks}
-use Rattle.test_json.proofs.RecursionFields.{first_tree, later_tree, later_lacks}
+use Rattle.rmp_recursive.proofs.Fields.{first_tree, later_tree, later_lacks}
 use Rattle.rmp_encode.proofs.Variants.{newtype_no_byte, struct_variant_no_byte}
 
 level_no_byte : (x : Menu-F (Option Data)) → byte_of (menu_level x) ≡ None

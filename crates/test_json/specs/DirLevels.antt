@@ -1,22 +1,23 @@
 -- What the recursive type Dir is read from and written as, level by level. Written by tools/derive.py.
 use Rattle.std.proofs.Common.{◌≡◌, ◌∙◌, sym, ap, subst, ℕ, zero, suc, List, [], ◌∷◌, All, Option, None, Some, String}
+use Rattle.std.specs.Int.{w64}
 use Rattle.std.specs.String.{string_cmp}
-use Rattle.std.specs.Prelude.{◌<◌, ◌^◌, codes, pos, IsUtf8, string_bytes}
+use Rattle.std.specs.Prelude.{codes, pos, negsuc, FitsSigned, IsUtf8, string_bytes}
 use Rattle.std.specs.declared.alloc.Global.{Global}
 use Rattle.rmp_wire.specs.Msg.{Msg}
 use Rattle.rmp_decode.specs.Fields.{OfFields, Field, Absent, NoField}
 use Rattle.rmp_decode.specs.Law.{Readable}
 use Rattle.rmp_decode.specs.Maps.{ReadsEntries}
-use Rattle.rmp_decode.specs.Read.{IsUnsigned, IsRaw}
+use Rattle.rmp_decode.specs.Read.{IsSigned, IsRaw}
 use Rattle.rmp_encode.specs.Data.{Data, whole, text}
 use Rattle.rmp_encode.specs.Trees.{mapping_of, in_turn, structure_of}
+use Rattle.rmp_recursive.specs.Parts.{InSteps}
+use Rattle.rmp_recursive.specs.Fields.{fields_as, fields_in, field_as, field_in}
+use Rattle.rmp_recursive.specs.Maps.{EntriesFit, map_as, map_in, entries_hold, entries_through, turns_mapped}
 use Rattle.test_json.specs.declared.dirs.Dir.{Dir, out-Dir}
 use Rattle.test_json.specs.declared.dirs.Dir.TheFolds.{ind-Dir, fold-Dir, rec-Dir, map-Dir, rec-roll-Dir, fold_out-Dir}
 use Rattle.test_json.specs.declared.dirs.Dir.TheOpen.{Dir-F}
 use Rattle.test_json.specs.declared.dirs.Dir.TheViews.{roll-Dir, out-roll-Dir, roll-out-Dir}
-use Rattle.test_json.specs.Recursion.{InSteps}
-use Rattle.test_json.specs.RecursionFields.{fields_as, fields_in, field_as, field_in}
-use Rattle.test_json.specs.RecursionMaps.{EntriesFit, map_as, map_in, entries_hold, entries_through, turns_mapped}
 
 abbrev pub dir_names : List (List ℕ)
 dir_names = codes "size" ∷ (codes "dirs" ∷ [])
@@ -30,7 +31,7 @@ abbrev pub DirFrom1 : (Msg → Dir → Type 0) → Dir-F Dir → List (Option Ms
 DirFrom1 reads x fs = Field (λ k. ReadsEntries string_cmp (λ j q. IsRaw j (string_bytes q)) reads x.dirs.entries k) (Absent None x.dirs) (DirFrom2 reads x) fs
 
 abbrev pub DirFrom0 : (Msg → Dir → Type 0) → Dir-F Dir → List (Option Msg) → Type 0
-DirFrom0 reads x fs = Field (λ k. IsUnsigned 4294967295 k x.size) (Absent None x.size) (DirFrom1 reads x) fs
+DirFrom0 reads x fs = Field (λ k. IsSigned (negsuc 9223372036854775807) (pos 9223372036854775807) k x.size) (Absent None x.size) (DirFrom1 reads x) fs
 
 abbrev pub DirFields : (Msg → Dir → Type 0) → List (Option Msg) → Dir → Type 0
 DirFields reads fs v = DirFrom0 reads (out-Dir v) fs
@@ -50,7 +51,7 @@ DirRead m v = OfFields dir_names (λ fs. DirFields IsDir fs v) m
 -- ---- what it is written as: one level, of what its parts are written as
 
 abbrev pub dir_level : Dir-F (Option Data) → Option Data
-dir_level v = structure_of ((codes "size", Some (whole (pos v.size)))
+dir_level v = structure_of ((codes "size", Some (whole v.size))
     ∷ ((codes "dirs", mapping_of (in_turn (λ (q : String Global). Some (text (string_bytes q))) (λ x. x) v.dirs.entries)) ∷ []))
 
 abbrev pub dir_data : Dir → Option Data
@@ -59,7 +60,7 @@ dir_data = fold-Dir (Option Data) dir_level
 -- ---- what is known of a value
 
 abbrev pub dir_layer_fits : (X : Type 0) → (X → Dir) → (X → Type 0) → Dir-F X → Type 0
-dir_layer_fits X at fits v = (v.size < 2 ^ 32) × (EntriesFit string_cmp (λ (q : String Global). IsUtf8 (string_bytes q)) fits v.dirs.entries)
+dir_layer_fits X at fits v = (FitsSigned w64 v.size) × (EntriesFit string_cmp (λ (q : String Global). IsUtf8 (string_bytes q)) fits v.dirs.entries)
 
 abbrev pub dir_fits : Dir → Type 0
 dir_fits = rec-Dir (Type 0) dir_layer_fits
@@ -79,8 +80,9 @@ dir_as1 P Q f v = field_as (λ k. ReadsEntries string_cmp (λ j q. IsRaw j (stri
 
 dir_as0 : (P Q : Msg → Dir → Type 0) → ((m : Msg) (v : Dir) → P m v → Q m v) → (v : Dir) (fs : List (Option Msg)) → DirFrom0 P (out-Dir v) fs
     → DirFrom0 Q (out-Dir v) fs
-dir_as0 P Q f v = field_as (λ k. IsUnsigned 4294967295 k (out-Dir v).size) (λ k. IsUnsigned 4294967295 k (out-Dir v).size) (Absent None (out-Dir v).size)
-    (DirFrom1 P (out-Dir v)) (DirFrom1 Q (out-Dir v)) (λ m h. h) (dir_as1 P Q f v)
+dir_as0 P Q f v = field_as (λ k. IsSigned (negsuc 9223372036854775807) (pos 9223372036854775807) k (out-Dir v).size)
+    (λ k. IsSigned (negsuc 9223372036854775807) (pos 9223372036854775807) k (out-Dir v).size) (Absent None (out-Dir v).size) (DirFrom1 P (out-Dir v))
+    (DirFrom1 Q (out-Dir v)) (λ m h. h) (dir_as1 P Q f v)
 
 dir_up : (n : ℕ) (m : Msg) (v : Dir) → DirIn n m v → DirIn (suc n) m v
 dir_up zero m v h = absurd h
@@ -98,9 +100,9 @@ dir_in1 v = field_in (Absent None (out-Dir v).dirs) (λ k. ReadsEntries string_c
     (λ m h. map_in string_cmp (λ (j : Msg) (q : String Global). IsRaw j (string_bytes q)) DirIn dir_up m (out-Dir v).dirs.entries h) (dir_in2 v)
 
 dir_in0 : (v : Dir) (fs : List (Option Msg)) → DirFrom0 IsDir (out-Dir v) fs → (n : ℕ) × DirFrom0 (DirIn n) (out-Dir v) fs
-dir_in0 v = field_in (Absent None (out-Dir v).size) (λ k. IsUnsigned 4294967295 k (out-Dir v).size) (λ i. (λ k. IsUnsigned 4294967295 k (out-Dir v).size))
-    (DirFrom1 IsDir (out-Dir v)) (λ i. DirFrom1 (DirIn i) (out-Dir v)) (λ i. (λ m h. h)) (λ i. dir_as1 (DirIn i) (DirIn (suc i)) (dir_up i) v)
-    (λ m h. (zero, h)) (dir_in1 v)
+dir_in0 v = field_in (Absent None (out-Dir v).size) (λ k. IsSigned (negsuc 9223372036854775807) (pos 9223372036854775807) k (out-Dir v).size)
+    (λ i. (λ k. IsSigned (negsuc 9223372036854775807) (pos 9223372036854775807) k (out-Dir v).size)) (DirFrom1 IsDir (out-Dir v))
+    (λ i. DirFrom1 (DirIn i) (out-Dir v)) (λ i. (λ m h. h)) (λ i. dir_as1 (DirIn i) (DirIn (suc i)) (dir_up i) v) (λ m h. (zero, h)) (dir_in1 v)
 
 pub dir_made : (v : Dir) (m : Msg) → DirRead m v → IsDir m v
 dir_made v m h =
@@ -130,7 +132,7 @@ dir_induction P step =
 
 dir_through : (X : Type 0) (at : X → Dir) (k : Dir → Type 0) (x : Dir-F X)
     → dir_layer_fits X at (λ p. k (at p)) x ≡ dir_layer_fits Dir (λ y. y) k (map-Dir X Dir at x)
-dir_through X at k x = λ i. (x.size < 2 ^ 32) × (entries_through at string_cmp (λ (q : String Global). IsUtf8 (string_bytes q)) k x.dirs.entries i)
+dir_through X at k x = λ i. (FitsSigned w64 x.size) × (entries_through at string_cmp (λ (q : String Global). IsUtf8 (string_bytes q)) k x.dirs.entries i)
 
 abbrev pub DirFits : Dir-F Dir → Type 0
 DirFits x = dir_layer_fits Dir (λ y. y) dir_fits x
@@ -153,9 +155,9 @@ dir_is_at v x e = dir_is v ∙ ap (λ z. dir_level (map-Dir Dir (Option Data) di
 -- ---- what it is written as, by what its parts are
 
 abbrev pub dir_own : Dir-F Dir → Option Data
-dir_own x = structure_of ((codes "size", Some (whole (pos x.size)))
+dir_own x = structure_of ((codes "size", Some (whole x.size))
     ∷ ((codes "dirs", mapping_of (in_turn (λ (q : String Global). Some (text (string_bytes q))) dir_data x.dirs.entries)) ∷ []))
 
 pub dir_is_own : (v : Dir) → dir_data v ≡ dir_own (out-Dir v)
-dir_is_own v = dir_is v ∙ (λ i. structure_of ((codes "size", Some (whole (pos (out-Dir v).size)))
+dir_is_own v = dir_is v ∙ (λ i. structure_of ((codes "size", Some (whole (out-Dir v).size))
     ∷ ((codes "dirs", mapping_of (turns_mapped (λ (q : String Global). Some (text (string_bytes q))) dir_data (out-Dir v).dirs.entries i)) ∷ [])))

@@ -13,12 +13,12 @@ use Rattle.rmp_decode.specs.Read.{IsSigned, IsRaw}
 use Rattle.rmp_decode.specs.Variants.{OfVariant, Case, NoCase, Bare, Content}
 use Rattle.rmp_encode.specs.Data.{Data, whole, truth, text, unit_variant}
 use Rattle.rmp_encode.specs.Trees.{slice_of, mapping_of, in_turn, newtype_variant_of}
+use Rattle.rmp_recursive.specs.Parts.{Row, InSteps, row_as, row_in, variant_as, variant_in, each_holds, through}
+use Rattle.rmp_recursive.specs.Maps.{EntriesFit, map_as, map_in, entries_hold, entries_through, turns_mapped}
 use Rattle.test_json.specs.declared.json.Json.{Json, out-Json}
 use Rattle.test_json.specs.declared.json.Json.TheFolds.{ind-Json, fold-Json, rec-Json, map-Json, rec-roll-Json, fold_out-Json}
 use Rattle.test_json.specs.declared.json.Json.TheOpen.{Json-F}
 use Rattle.test_json.specs.declared.json.Json.TheViews.{roll-Json, out-roll-Json, roll-out-Json}
-use Rattle.test_json.specs.Recursion.{Row, InSteps, row_as, row_in, variant_as, variant_in, each_holds, through}
-use Rattle.test_json.specs.RecursionMaps.{EntriesFit, map_as, map_in, entries_hold, entries_through, turns_mapped}
 use Rattle.rmp_wire.specs.Msg as msg
 
 abbrev pub json_names : List (List ℕ)

@@ -24,13 +24,13 @@ use Rattle.rmp_round_trip.specs.OnlyRows.{list_only, lowers_then}
 use Rattle.rmp_round_trip.specs.RoundTrip.{Alike, AlikeEntries, LowersTo, Only}
 use Rattle.rmp_round_trip.specs.Rounds.{slice_some, each_row, slice_row}
 use Rattle.rmp_round_trip.specs.VariantRounds.{newtype_variant_some, bare_row, newtype_variant_row, bare_other, newtype_variant_other}
+use Rattle.rmp_recursive.specs.Parts.{Row, each_from}
+use Rattle.rmp_recursive.specs.MapRounds.{mapping_data, maps_alike}
+use Rattle.rmp_recursive.specs.Maps.{entries_from}
+use Rattle.rmp_recursive.specs.Rounds.{each_data, lowers_as, map_alike}
 use Rattle.test_json.specs.declared.json.Json.{Json, out-Json}
 use Rattle.test_json.specs.declared.json.Json.TheFolds.{map-Json}
 use Rattle.test_json.specs.declared.json.Json.TheOpen.{Json-F}
-use Rattle.test_json.specs.Recursion.{Row, each_from}
-use Rattle.test_json.specs.RecursionMaps.{entries_from}
-use Rattle.test_json.specs.RecursionMapRounds.{mapping_data, maps_alike}
-use Rattle.test_json.specs.RecursionRounds.{each_data, lowers_as, map_alike}
 use Rattle.test_json.specs.JsonLevels.{
   JsonCase,
   IsJson,

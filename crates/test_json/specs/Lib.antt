@@ -1,10 +1,5 @@
-pub mod Recursion
-pub mod RecursionRounds
-pub mod RecursionMaps
-pub mod RecursionMapRounds
 pub mod JsonLevels
 pub mod JsonRounds
-pub mod RecursionFields
 pub mod DirLevels
 pub mod DirRounds
 pub mod MenuLevels

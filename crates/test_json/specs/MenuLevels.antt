@@ -13,13 +13,13 @@ use Rattle.rmp_decode.specs.Read.{IsUnsigned, IsRaw, IsChar}
 use Rattle.rmp_decode.specs.Variants.{OfVariant, Case, NoCase, Content}
 use Rattle.rmp_encode.specs.Data.{Data, byte, char, text}
 use Rattle.rmp_encode.specs.Trees.{mapping_of, in_turn, newtype_variant_of, struct_variant_of}
+use Rattle.rmp_recursive.specs.Parts.{InSteps, variant_as, variant_in}
+use Rattle.rmp_recursive.specs.Fields.{fields_as, fields_in, field_as, field_in}
+use Rattle.rmp_recursive.specs.Maps.{EntriesFit, map_as, map_in, entries_hold, entries_through, turns_mapped}
 use Rattle.test_json.specs.declared.dirs.Menu.{Menu, out-Menu}
 use Rattle.test_json.specs.declared.dirs.Menu.TheFolds.{ind-Menu, fold-Menu, rec-Menu, map-Menu, rec-roll-Menu, fold_out-Menu}
 use Rattle.test_json.specs.declared.dirs.Menu.TheOpen.{Menu-F}
 use Rattle.test_json.specs.declared.dirs.Menu.TheViews.{roll-Menu, out-roll-Menu, roll-out-Menu}
-use Rattle.test_json.specs.Recursion.{InSteps, variant_as, variant_in}
-use Rattle.test_json.specs.RecursionFields.{fields_as, fields_in, field_as, field_in}
-use Rattle.test_json.specs.RecursionMaps.{EntriesFit, map_as, map_in, entries_hold, entries_through, turns_mapped}
 
 abbrev pub menu_names : List (List ℕ)
 menu_names = codes "Entry" ∷ (codes "Part" ∷ [])

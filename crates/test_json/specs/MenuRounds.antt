@@ -24,12 +24,12 @@ use Rattle.rmp_round_trip.specs.OnlyRows.{lowers_then}
 use Rattle.rmp_round_trip.specs.RoundTrip.{AlikeEntries, LowersTo, Only}
 use Rattle.rmp_round_trip.specs.StructRounds.{struct_variant_all, fields_none, fields_cons}
 use Rattle.rmp_round_trip.specs.VariantRounds.{newtype_variant_some, newtype_variant_row, struct_variant_row, newtype_variant_other, struct_variant_other}
+use Rattle.rmp_recursive.specs.MapRounds.{mapping_data, maps_alike}
+use Rattle.rmp_recursive.specs.Maps.{entries_from}
+use Rattle.rmp_recursive.specs.Rounds.{lowers_as}
 use Rattle.test_json.specs.declared.dirs.Menu.{Menu, out-Menu}
 use Rattle.test_json.specs.declared.dirs.Menu.TheFolds.{map-Menu}
 use Rattle.test_json.specs.declared.dirs.Menu.TheOpen.{Menu-F}
-use Rattle.test_json.specs.RecursionMaps.{entries_from}
-use Rattle.test_json.specs.RecursionMapRounds.{mapping_data, maps_alike}
-use Rattle.test_json.specs.RecursionRounds.{lowers_as}
 use Rattle.test_json.specs.MenuLevels.{
   MenuCase,
   IsMenu,

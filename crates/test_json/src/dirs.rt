@@ -6,7 +6,7 @@ use std::collections::BTreeMap;
 /// A directory with those in it.
 #[derive(Drop)]
 pub struct Dir {
-    pub size: u32,
+    pub size: i64,
     pub dirs: BTreeMap<String, Dir>,
 }
 

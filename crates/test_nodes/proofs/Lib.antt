@@ -1,5 +1,1 @@
-pub mod Recursion
-pub mod RecursionFields
-pub mod NodeLevels
-pub mod CellLevels
-pub mod FolderLevels
+pub mod RoseLevels

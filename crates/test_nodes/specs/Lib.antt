@@ -1,9 +1,1 @@
-pub mod Recursion
-pub mod RecursionRounds
-pub mod RecursionFields
-pub mod NodeLevels
-pub mod NodeRounds
-pub mod CellLevels
-pub mod CellRounds
-pub mod FolderLevels
-pub mod FolderRounds
+pub mod RoseLevels

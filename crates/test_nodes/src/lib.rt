@@ -1,6 +1,6 @@
-//! Structs that lead back to themselves: the tool derives them, and they are read as they were written.
+//! A struct that contains itself, in a crate that doesn't name `RoundTrip`.
 #![tactic(auto)]
 
 mod nodes;
 
-pub use nodes::{Cell, Folder, Node};
+pub use nodes::Rose;

@@ -1,9 +1,7 @@
-pub mod Steps
-pub mod Levels
-pub mod Roses
-pub mod Recursion
+pub mod NestedLevels
 pub mod TreeLevels
-pub mod ExprLevels
 pub mod TermLevels
-pub mod LinkLevels
 pub mod FormulaLevels
+pub mod RuleLevels
+pub mod TaskLevels
+pub mod PostLevels

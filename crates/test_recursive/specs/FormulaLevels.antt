@@ -1,6 +1,6 @@
 -- What the recursive type Formula is read from and written as, level by level. Written by tools/derive.py.
 use Rattle.std.proofs.Common.{◌≡◌, ◌∙◌, refl, sym, ap, subst, ℕ, zero, suc, List, [], ◌∷◌, All, Option, None, Some, String, Box}
-use Rattle.std.specs.Int.{w32, w64}
+use Rattle.std.specs.Int.{w32}
 use Rattle.std.specs.List.{AllByRecursion}
 use Rattle.std.specs.Prelude.{◌<◌, ◌^◌, ⊤, codes, Vec, ℤ, pos, negsuc, FitsSigned, IsUtf8, IfSome, string_bytes}
 use Rattle.std.specs.declared.alloc.Global.{Global}
@@ -12,12 +12,8 @@ use Rattle.rmp_decode.specs.Rows.{AndThen, NoMore}
 use Rattle.rmp_decode.specs.Seq.{OfRow}
 use Rattle.rmp_decode.specs.Variants.{OfVariant, Case, NoCase, Content}
 use Rattle.rmp_encode.specs.Data.{Data, whole, text}
-use Rattle.rmp_encode.specs.Trees.{slice_of, option_of, newtype_variant_of, tuple_variant_of}
-use Rattle.test_recursive.specs.declared.trees.Formula.{Formula, out-Formula}
-use Rattle.test_recursive.specs.declared.trees.Formula.TheFolds.{ind-Formula, fold-Formula, rec-Formula, map-Formula, rec-roll-Formula, fold_out-Formula}
-use Rattle.test_recursive.specs.declared.trees.Formula.TheOpen.{Formula-F}
-use Rattle.test_recursive.specs.declared.trees.Formula.TheViews.{roll-Formula, out-roll-Formula, roll-out-Formula}
-use Rattle.test_recursive.specs.Recursion.{
+use Rattle.rmp_encode.specs.Trees.{slice_of, option_of, tuple_variant_of}
+use Rattle.rmp_recursive.specs.Parts.{
   Row,
   Boxed,
   InSteps,
@@ -34,19 +30,19 @@ use Rattle.test_recursive.specs.Recursion.{
   each_holds,
   through,
 }
+use Rattle.test_recursive.specs.declared.trees.Formula.{Formula, out-Formula}
+use Rattle.test_recursive.specs.declared.trees.Formula.TheFolds.{ind-Formula, fold-Formula, rec-Formula, map-Formula, rec-roll-Formula, fold_out-Formula}
+use Rattle.test_recursive.specs.declared.trees.Formula.TheOpen.{Formula-F}
+use Rattle.test_recursive.specs.declared.trees.Formula.TheViews.{roll-Formula, out-roll-Formula, roll-out-Formula}
 
 abbrev pub formula_names : List (List ℕ)
-formula_names = codes "Number" ∷ (codes "Cell" ∷ (codes "Add" ∷ (codes "Shift" ∷ (codes "Call" ∷ (codes "If" ∷ [])))))
+formula_names = codes "Cell" ∷ (codes "Shift" ∷ (codes "Call" ∷ (codes "If" ∷ [])))
 
 -- ---- what it is read from
 
 -- the values of Cell, one after another
 abbrev pub FormulaRowCell : Msg → ℕ × ℕ → Type 0
 FormulaRowCell m a = OfRow (AndThen (λ j. IsUnsigned 65535 j a.0) (AndThen (λ j. IsUnsigned 65535 j a.1) NoMore)) m
-
--- the values of Add, one after another
-abbrev pub FormulaRowAdd : (Msg → Formula → Type 0) → Msg → Box Formula Global × Box Formula Global → Type 0
-FormulaRowAdd reads m a = OfRow (AndThen (λ j. reads j a.0.value) (AndThen (λ j. reads j a.1.value) NoMore)) m
 
 -- the values of Shift, one after another
 abbrev pub FormulaRowShift : (Msg → Formula → Type 0) → Msg → ℤ × Box Formula Global → Type 0
@@ -61,15 +57,12 @@ abbrev pub FormulaRowIf : (Msg → Formula → Type 0) → Msg → Box Formula G
 FormulaRowIf reads m a = OfRow (AndThen (λ j. reads j a.0.value) (AndThen (λ j. reads j a.1.value) (AndThen (λ j. IsOption (Boxed reads) j a.2) NoMore))) m
 
 abbrev pub FormulaCase : (Msg → Formula → Type 0) → Formula → ℕ × Option Msg → Type 0
-FormulaCase reads v = Case (λ c. (a : ℤ) × (out-Formula v ≡ Formula-F.Number a)
-    × Content (λ k. IsSigned (negsuc 9223372036854775807) (pos 9223372036854775807) k a) c)
-    (Case (λ c. (a : ℕ × ℕ) × (out-Formula v ≡ Formula-F.Cell a.0 a.1) × Content (λ k. FormulaRowCell k a) c)
-    (Case (λ c. (a : Box Formula Global × Box Formula Global) × (out-Formula v ≡ Formula-F.Add a.0 a.1) × Content (λ k. FormulaRowAdd reads k a) c)
+FormulaCase reads v = Case (λ c. (a : ℕ × ℕ) × (out-Formula v ≡ Formula-F.Cell a.0 a.1) × Content (λ k. FormulaRowCell k a) c)
     (Case (λ c. (a : ℤ × Box Formula Global) × (out-Formula v ≡ Formula-F.Shift a.0 a.1) × Content (λ k. FormulaRowShift reads k a) c)
     (Case (λ c. (a : String Global × Vec Formula Global) × (out-Formula v ≡ Formula-F.Call a.0 a.1) × Content (λ k. FormulaRowCall reads k a) c)
     (Case (λ c. (a : Box Formula Global × Box Formula Global × Option (Box Formula Global)) × (out-Formula v ≡ Formula-F.If a.0 a.1 a.2)
     × Content (λ k. FormulaRowIf reads k a) c)
-    NoCase)))))
+    NoCase)))
 
 abbrev pub FormulaIn : ℕ → Msg → Formula → Type 0
 FormulaIn zero m v = ⊥
@@ -82,9 +75,7 @@ IsFormula m v = InSteps FormulaIn m v
 -- ---- what it is written as: one level, of what its parts are written as
 
 abbrev pub formula_level : Formula-F (Option Data) → Option Data
-formula_level (Formula-F.Number a) = newtype_variant_of (codes "Number") (Some (whole a))
 formula_level (Formula-F.Cell a0 a1) = tuple_variant_of (codes "Cell") (Some (whole (pos a0)) ∷ (Some (whole (pos a1)) ∷ []))
-formula_level (Formula-F.Add a0 a1) = tuple_variant_of (codes "Add") (a0.value ∷ (a1.value ∷ []))
 formula_level (Formula-F.Shift a0 a1) = tuple_variant_of (codes "Shift") (Some (whole a0) ∷ (a1.value ∷ []))
 formula_level (Formula-F.Call a0 a1) = tuple_variant_of (codes "Call") (Some (text (string_bytes a0)) ∷ (slice_of a1.items ∷ []))
 formula_level (Formula-F.If a0 a1 a2) = tuple_variant_of (codes "If") (a0.value ∷ (a1.value ∷ (option_of (λ b. b.value) a2 ∷ [])))
@@ -95,9 +86,7 @@ formula_data = fold-Formula (Option Data) formula_level
 -- ---- what is known of a value
 
 abbrev pub formula_layer_fits : (X : Type 0) → (X → Formula) → (X → Type 0) → Formula-F X → Type 0
-formula_layer_fits X at fits (Formula-F.Number a) = FitsSigned w64 a
 formula_layer_fits X at fits (Formula-F.Cell a0 a1) = (a0 < 2 ^ 16) × (a1 < 2 ^ 16)
-formula_layer_fits X at fits (Formula-F.Add a0 a1) = (fits a0.value) × (fits a1.value)
 formula_layer_fits X at fits (Formula-F.Shift a0 a1) = (FitsSigned w32 a0) × (fits a1.value)
 formula_layer_fits X at fits (Formula-F.Call a0 a1) = (IsUtf8 (string_bytes a0)) × (AllByRecursion fits a1.items)
 formula_layer_fits X at fits (Formula-F.If a0 a1 a2) = (fits a0.value) × (fits a1.value) × (IfSome a2 (λ b. fits b.value))
@@ -106,10 +95,6 @@ abbrev pub formula_fits : Formula → Type 0
 formula_fits = rec-Formula (Type 0) formula_layer_fits
 
 -- ---- one step more
-
-formula_as_Add : (P Q : Msg → Formula → Type 0) → ((m : Msg) (v : Formula) → P m v → Q m v) → (m : Msg) (a : Box Formula Global × Box Formula Global)
-    → FormulaRowAdd P m a → FormulaRowAdd Q m a
-formula_as_Add P Q f m a h = of_row_as _ _ (then_as _ _ _ _ (λ m h. f m a.0.value h) (then_as _ _ _ _ (λ m h. f m a.1.value h) (λ ms h. h))) m h
 
 formula_as_Shift : (P Q : Msg → Formula → Type 0) → ((m : Msg) (v : Formula) → P m v → Q m v) → (m : Msg) (a : ℤ × Box Formula Global)
     → FormulaRowShift P m a → FormulaRowShift Q m a
@@ -127,27 +112,19 @@ formula_as_If P Q f m a h = of_row_as _ _ (then_as _ _ _ _ (λ m h. f m a.0.valu
 formula_as : (P Q : Msg → Formula → Type 0) → ((m : Msg) (v : Formula) → P m v → Q m v) → (v : Formula) (k : ℕ) (c : Option Msg) → FormulaCase P v (k, c)
     → FormulaCase Q v (k, c)
 formula_as P Q f v zero c h = h
-formula_as P Q f v (suc zero) c h = h
+formula_as P Q f v (suc zero) None (a, e, h) = absurd h
+formula_as P Q f v (suc zero) (Some m) (a, e, h) = (a, e, formula_as_Shift P Q f m a h)
 formula_as P Q f v (suc (suc zero)) None (a, e, h) = absurd h
-formula_as P Q f v (suc (suc zero)) (Some m) (a, e, h) = (a, e, formula_as_Add P Q f m a h)
+formula_as P Q f v (suc (suc zero)) (Some m) (a, e, h) = (a, e, formula_as_Call P Q f m a h)
 formula_as P Q f v (suc (suc (suc zero))) None (a, e, h) = absurd h
-formula_as P Q f v (suc (suc (suc zero))) (Some m) (a, e, h) = (a, e, formula_as_Shift P Q f m a h)
-formula_as P Q f v (suc (suc (suc (suc zero)))) None (a, e, h) = absurd h
-formula_as P Q f v (suc (suc (suc (suc zero)))) (Some m) (a, e, h) = (a, e, formula_as_Call P Q f m a h)
-formula_as P Q f v (suc (suc (suc (suc (suc zero))))) None (a, e, h) = absurd h
-formula_as P Q f v (suc (suc (suc (suc (suc zero))))) (Some m) (a, e, h) = (a, e, formula_as_If P Q f m a h)
-formula_as P Q f v (suc (suc (suc (suc (suc (suc k)))))) c h = absurd h
+formula_as P Q f v (suc (suc (suc zero))) (Some m) (a, e, h) = (a, e, formula_as_If P Q f m a h)
+formula_as P Q f v (suc (suc (suc (suc k)))) c h = absurd h
 
 formula_up : (n : ℕ) (m : Msg) (v : Formula) → FormulaIn n m v → FormulaIn (suc n) m v
 formula_up zero m v h = absurd h
 formula_up (suc n) m v h =
     variant_as formula_names (FormulaCase (FormulaIn n) v) (FormulaCase (FormulaIn (suc n)) v)
     (formula_as (FormulaIn n) (FormulaIn (suc n)) (formula_up n) v) m h
-
-formula_in_Add : (m : Msg) (a : Box Formula Global × Box Formula Global) → FormulaRowAdd IsFormula m a → (n : ℕ) × FormulaRowAdd (FormulaIn n) m a
-formula_in_Add m a h = of_row_in _ _ (then_in _ _ _ _ (λ i. (λ m h. (formula_up i) m a.0.value h))
-    (λ i. then_as _ _ _ _ (λ m h. (formula_up i) m a.1.value h) (λ ms h. h)) (λ m h. h)
-    (then_in _ _ _ _ (λ i. (λ m h. (formula_up i) m a.1.value h)) (λ i. (λ ms h. h)) (λ m h. h) (λ ms h. (zero, h)))) m h
 
 formula_in_Shift : (m : Msg) (a : ℤ × Box Formula Global) → FormulaRowShift IsFormula m a → (n : ℕ) × FormulaRowShift (FormulaIn n) m a
 formula_in_Shift m a h = of_row_in _ _ (then_in _ _ _ _ (λ i. (λ m h. h)) (λ i. then_as _ _ _ _ (λ m h. (formula_up i) m a.1.value h) (λ ms h. h))
@@ -171,16 +148,13 @@ formula_in_If m a h = of_row_in _ _ (then_in _ _ _ _ (λ i. (λ m h. (formula_up
 
 formula_in : (v : Formula) (k : ℕ) (c : Option Msg) → FormulaCase IsFormula v (k, c) → (n : ℕ) × FormulaCase (FormulaIn n) v (k, c)
 formula_in v zero c h = (zero, h)
-formula_in v (suc zero) c h = (zero, h)
+formula_in v (suc zero) None (a, e, h) = absurd h
+formula_in v (suc zero) (Some m) (a, e, h) = let i = formula_in_Shift m a h in (i.0, (a, e, i.1))
 formula_in v (suc (suc zero)) None (a, e, h) = absurd h
-formula_in v (suc (suc zero)) (Some m) (a, e, h) = let i = formula_in_Add m a h in (i.0, (a, e, i.1))
+formula_in v (suc (suc zero)) (Some m) (a, e, h) = let i = formula_in_Call m a h in (i.0, (a, e, i.1))
 formula_in v (suc (suc (suc zero))) None (a, e, h) = absurd h
-formula_in v (suc (suc (suc zero))) (Some m) (a, e, h) = let i = formula_in_Shift m a h in (i.0, (a, e, i.1))
-formula_in v (suc (suc (suc (suc zero)))) None (a, e, h) = absurd h
-formula_in v (suc (suc (suc (suc zero)))) (Some m) (a, e, h) = let i = formula_in_Call m a h in (i.0, (a, e, i.1))
-formula_in v (suc (suc (suc (suc (suc zero))))) None (a, e, h) = absurd h
-formula_in v (suc (suc (suc (suc (suc zero))))) (Some m) (a, e, h) = let i = formula_in_If m a h in (i.0, (a, e, i.1))
-formula_in v (suc (suc (suc (suc (suc (suc k)))))) c h = absurd h
+formula_in v (suc (suc (suc zero))) (Some m) (a, e, h) = let i = formula_in_If m a h in (i.0, (a, e, i.1))
+formula_in v (suc (suc (suc (suc k)))) c h = absurd h
 
 pub formula_made : (v : Formula) (m : Msg) → OfVariant formula_names (FormulaCase IsFormula v) m → IsFormula m v
 formula_made v m h = let i = variant_in formula_names (FormulaCase IsFormula v) (λ n. FormulaCase (FormulaIn n) v) (formula_in v) m h in (suc i.0, i.1)
@@ -197,18 +171,14 @@ formula_variant m (v, h) = (v, formula_out m v h)
 
 -- P holds of the parts
 abbrev pub FormulaParts : (Formula → Type 0) → Formula-F Formula → Type 0
-FormulaParts P (Formula-F.Number a) = ⊤
 FormulaParts P (Formula-F.Cell a0 a1) = ⊤
-FormulaParts P (Formula-F.Add a0 a1) = (P a0.value) × (P a1.value)
 FormulaParts P (Formula-F.Shift a0 a1) = P a1.value
 FormulaParts P (Formula-F.Call a0 a1) = All P a1.items
 FormulaParts P (Formula-F.If a0 a1 a2) = (P a0.value) × (P a1.value) × (IfSome a2 (λ b. P b.value))
 
 formula_parts_hold : {B : Type 0} (P : Formula → Type 0) (first : B → Formula) → ((b : B) → P (first b)) → (y : Formula-F B)
     → FormulaParts P (map-Formula B Formula first y)
-formula_parts_hold P first h (Formula-F.Number a) = tt
 formula_parts_hold P first h (Formula-F.Cell a0 a1) = tt
-formula_parts_hold P first h (Formula-F.Add a0 a1) = (h a0.value, h a1.value)
 formula_parts_hold P first h (Formula-F.Shift a0 a1) = h a1.value
 formula_parts_hold P first h (Formula-F.Call a0 a1) = each_holds P first h a1.items
 formula_parts_hold P first h (Formula-F.If a0 a1 None) = (h a0.value, h a1.value, tt)
@@ -221,9 +191,7 @@ formula_induction P step =
 
 formula_through : (X : Type 0) (at : X → Formula) (k : Formula → Type 0) (x : Formula-F X)
     → formula_layer_fits X at (λ p. k (at p)) x ≡ formula_layer_fits Formula (λ y. y) k (map-Formula X Formula at x)
-formula_through X at k (Formula-F.Number a) = refl
 formula_through X at k (Formula-F.Cell a0 a1) = refl
-formula_through X at k (Formula-F.Add a0 a1) = λ i. (k (at a0.value)) × (k (at a1.value))
 formula_through X at k (Formula-F.Shift a0 a1) = λ i. (FitsSigned w32 a0) × (k (at a1.value))
 formula_through X at k (Formula-F.Call a0 a1) = λ i. (IsUtf8 (string_bytes a0)) × (through at k a1.items i)
 formula_through X at k (Formula-F.If a0 a1 None) = λ i. (k (at a0.value)) × (k (at a1.value)) × (⊤)

@@ -9,21 +9,21 @@ use Rattle.rmp_decode.specs.Rows.{ReadsEach, AndThen, NoMore}
 use Rattle.rmp_decode.specs.Seq.{OfRow}
 use Rattle.rmp_decode.specs.Variants.{OfVariant, Content}
 use Rattle.rmp_encode.specs.Data.{Data, whole, text}
-use Rattle.rmp_encode.specs.Trees.{tree_of, slice_of, option_of, newtype_variant_of, tuple_variant_of}
+use Rattle.rmp_encode.specs.Trees.{tree_of, slice_of, option_of, tuple_variant_of}
 use Rattle.rmp_encode.specs.declared.settings.Settings.{Settings}
-use Rattle.rmp_round_trip.specs.LeafRounds.{string_row, signed_row_32, signed_row_64, unsigned_row_16}
-use Rattle.rmp_round_trip.specs.OnlyFields.{AtPlace, content_only, content_row, variant_both}
+use Rattle.rmp_round_trip.specs.LeafRounds.{string_row, signed_row_32, unsigned_row_16}
+use Rattle.rmp_round_trip.specs.OnlyFields.{AtPlace, content_row, variant_both}
 use Rattle.rmp_round_trip.specs.OnlyLeaves.{unsigned_only, signed_only, string_only}
 use Rattle.rmp_round_trip.specs.OnlyRows.{inside_only, item_only, last_only, list_only, option_only, lowers_then}
 use Rattle.rmp_round_trip.specs.RoundTrip.{Alike, AlikeOption, LowersTo, Only}
 use Rattle.rmp_round_trip.specs.Rounds.{slice_some, each_row, slice_row, option_row, rows_none, rows_cons}
 use Rattle.rmp_round_trip.specs.StructRounds.{tuple_variant_all}
-use Rattle.rmp_round_trip.specs.VariantRounds.{newtype_variant_some, newtype_variant_row, tuple_variant_row, newtype_variant_other, tuple_variant_other}
+use Rattle.rmp_round_trip.specs.VariantRounds.{tuple_variant_row, tuple_variant_other}
+use Rattle.rmp_recursive.specs.Parts.{Row, Boxed, each_from, option_from}
+use Rattle.rmp_recursive.specs.Rounds.{each_data, option_data, lowers_as, map_alike, option_alike}
 use Rattle.test_recursive.specs.declared.trees.Formula.{Formula, out-Formula}
 use Rattle.test_recursive.specs.declared.trees.Formula.TheFolds.{map-Formula}
 use Rattle.test_recursive.specs.declared.trees.Formula.TheOpen.{Formula-F}
-use Rattle.test_recursive.specs.Recursion.{Row, Boxed, each_from, option_from}
-use Rattle.test_recursive.specs.RecursionRounds.{each_data, option_data, lowers_as, map_alike, option_alike}
 use Rattle.test_recursive.specs.FormulaLevels.{
   FormulaCase,
   IsFormula,
@@ -46,9 +46,7 @@ use Rattle.test_recursive.specs.FormulaLevels.{
 
 formula_level_some : (x : Formula-F Formula) → FormulaParts (λ t. IsSome (formula_data t)) x
     → IsSome (formula_level (map-Formula Formula (Option Data) formula_data x))
-formula_level_some (Formula-F.Number a) h = newtype_variant_some (codes "Number") (Some (whole a)) refl
 formula_level_some (Formula-F.Cell a0 a1) h = tuple_variant_all (codes "Cell") (Some (whole (pos a0)) ∷ (Some (whole (pos a1)) ∷ [])) (refl, (refl, tt))
-formula_level_some (Formula-F.Add a0 a1) h = tuple_variant_all (codes "Add") (formula_data a0.value ∷ (formula_data a1.value ∷ [])) (h.0, (h.1, tt))
 formula_level_some (Formula-F.Shift a0 a1) h = tuple_variant_all (codes "Shift") (Some (whole a0) ∷ (formula_data a1.value ∷ [])) (refl, (h, tt))
 formula_level_some (Formula-F.Call a0 a1) h = tuple_variant_all (codes "Call") (Some (text (string_bytes a0)) ∷ (slice_of (map formula_data a1.items) ∷ []))
     (refl, ((slice_some (map formula_data a1.items) (each_data formula_data a1.items h)), tt))
@@ -66,9 +64,7 @@ module _ (s : Settings) where
   -- ---- it is never nil
 
   formula_level_other : (x : Formula-F (Option Data)) → tree_of s (formula_level x) ≢ Some nil
-  formula_level_other (Formula-F.Number a) e = newtype_variant_other s (codes "Number") (Some (whole a)) e
   formula_level_other (Formula-F.Cell a0 a1) e = tuple_variant_other s (codes "Cell") (Some (whole (pos a0)) ∷ (Some (whole (pos a1)) ∷ [])) e
-  formula_level_other (Formula-F.Add a0 a1) e = tuple_variant_other s (codes "Add") (a0.value ∷ (a1.value ∷ [])) e
   formula_level_other (Formula-F.Shift a0 a1) e = tuple_variant_other s (codes "Shift") (Some (whole a0) ∷ (a1.value ∷ [])) e
   formula_level_other (Formula-F.Call a0 a1) e = tuple_variant_other s (codes "Call") (Some (text (string_bytes a0)) ∷ (slice_of a1.items ∷ [])) e
   formula_level_other (Formula-F.If a0 a1 a2) e = tuple_variant_other s (codes "If") (a0.value ∷ (a1.value ∷ (option_of (λ b. b.value) a2 ∷ []))) e
@@ -86,25 +82,20 @@ module _ (s : Settings) where
 
   formula_level_round : (v : Formula) (x : Formula-F Formula) → out-Formula v ≡ x → FormulaParts FormulaRound x → FormulaFits x
       → LowersTo s (formula_level (map-Formula Formula (Option Data) formula_data x)) (λ m. OfVariant formula_names (FormulaCase IsFormula v) m)
-  formula_level_round v (Formula-F.Number a) e h fit = newtype_variant_row s formula_names (codes "Number") 0 refl (FormulaCase IsFormula v)
-      (Some (whole a)) (λ m. IsSigned (negsuc 9223372036854775807) (pos 9223372036854775807) m a) (λ m p. (a, e, p)) (signed_row_64 s a fit)
-  formula_level_round v (Formula-F.Cell a0 a1) e h fit = tuple_variant_row s formula_names (codes "Cell") 1 refl (FormulaCase IsFormula v) _ _
+  formula_level_round v (Formula-F.Cell a0 a1) e h fit = tuple_variant_row s formula_names (codes "Cell") 0 refl (FormulaCase IsFormula v) _ _
       (λ m p. ((a0, a1), e, p))
       (rows_cons s _ _ (λ m. IsUnsigned 65535 m a0) _ (unsigned_row_16 s a0 fit.0)
       (rows_cons s _ _ (λ m. IsUnsigned 65535 m a1) _ (unsigned_row_16 s a1 fit.1) (rows_none s)))
-  formula_level_round v (Formula-F.Add a0 a1) e h fit = tuple_variant_row s formula_names (codes "Add") 2 refl (FormulaCase IsFormula v) _ _
-      (λ m p. ((a0, a1), e, p))
-      (rows_cons s _ _ (λ m. IsFormula m a0.value) _ (h.0 fit.0) (rows_cons s _ _ (λ m. IsFormula m a1.value) _ (h.1 fit.1) (rows_none s)))
-  formula_level_round v (Formula-F.Shift a0 a1) e h fit = tuple_variant_row s formula_names (codes "Shift") 3 refl (FormulaCase IsFormula v) _ _
+  formula_level_round v (Formula-F.Shift a0 a1) e h fit = tuple_variant_row s formula_names (codes "Shift") 1 refl (FormulaCase IsFormula v) _ _
       (λ m p. ((a0, a1), e, p))
       (rows_cons s _ _ (λ m. IsSigned (negsuc 2147483647) (pos 2147483647) m a0) _ (signed_row_32 s a0 fit.0)
       (rows_cons s _ _ (λ m. IsFormula m a1.value) _ (h fit.1) (rows_none s)))
-  formula_level_round v (Formula-F.Call a0 a1) e h fit = tuple_variant_row s formula_names (codes "Call") 4 refl (FormulaCase IsFormula v) _ _
+  formula_level_round v (Formula-F.Call a0 a1) e h fit = tuple_variant_row s formula_names (codes "Call") 2 refl (FormulaCase IsFormula v) _ _
       (λ m p. ((a0, a1), e, p))
       (rows_cons s _ _ (λ m. IsRaw m (string_bytes a0)) _ (string_row s (string_bytes a0))
       (rows_cons s _ _ (λ m. Row IsFormula m a1.items) _ (slice_row s (map formula_data a1.items) (λ ms. ReadsEach IsFormula ms a1.items)
       (each_row s formula_data FormulaBack IsFormula (λ w p. p) a1.items (each_from formula_fits FormulaBack a1.items h fit.1))) (rows_none s)))
-  formula_level_round v (Formula-F.If a0 a1 None) e h fit = tuple_variant_row s formula_names (codes "If") 5 refl (FormulaCase IsFormula v) _ _
+  formula_level_round v (Formula-F.If a0 a1 None) e h fit = tuple_variant_row s formula_names (codes "If") 3 refl (FormulaCase IsFormula v) _ _
       (λ m p. ((a0, a1, None), e, p))
       (rows_cons s _ _ (λ m. IsFormula m a0.value) _ (h.0 fit.0)
       (rows_cons s _ _ (λ m. IsFormula m a1.value) _ (h.1 fit.1)
@@ -112,7 +103,7 @@ module _ (s : Settings) where
       (option_row s (λ (b : Box Formula Global). formula_data b.value) (λ b. FormulaBack b.value) (Boxed IsFormula)
       (λ b. formula_other b.value) (λ b p. p) None (option_from (λ (b : Box Formula Global). formula_fits b.value) (λ b. FormulaBack b.value) None h.2
       fit.2)) (rows_none s))))
-  formula_level_round v (Formula-F.If a0 a1 (Some a2)) e h fit = tuple_variant_row s formula_names (codes "If") 5 refl (FormulaCase IsFormula v) _ _
+  formula_level_round v (Formula-F.If a0 a1 (Some a2)) e h fit = tuple_variant_row s formula_names (codes "If") 3 refl (FormulaCase IsFormula v) _ _
       (λ m p. ((a0, a1, (Some a2)), e, p))
       (rows_cons s _ _ (λ m. IsFormula m a0.value) _ (h.0 fit.0)
       (rows_cons s _ _ (λ m. IsFormula m a1.value) _ (h.1 fit.1)
@@ -146,55 +137,24 @@ module _ (s : Settings) where
 
   formula_level_only : (x : Formula-F Formula) → FormulaParts (λ v. formula_fits v → FormulaOnly v) x → FormulaFits x
       → LowersTo s (formula_level (map-Formula Formula (Option Data) formula_data x)) (FormulaLevelOnly x)
-  formula_level_only (Formula-F.Number a) h fit =
-      lowers_then s (newtype_variant_of (codes "Number") (Some (whole a))) _ (FormulaLevelOnly (Formula-F.Number a))
-      (newtype_variant_row s formula_names (codes "Number") 0 refl
-      (AtPlace 0 (Content (λ k. Only (λ (k : Msg) (x : ℤ). IsSigned (negsuc 9223372036854775807) (pos 9223372036854775807) k x) (λ (x y : ℤ). x ≡ y) k
-      a))) (Some (whole a))
-      (λ k. Only (λ (k : Msg) (x : ℤ). IsSigned (negsuc 9223372036854775807) (pos 9223372036854775807) k x) (λ (x y : ℤ). x ≡ y) k a) (λ m p. (refl, p))
-      (signed_only s (negsuc 9223372036854775807) (pos 9223372036854775807) a))
-      (λ m q w r. variant_both formula_names 0 _ (FormulaCase IsFormula w) _ m q r
-      (λ c i j. ap (λ d. newtype_variant_of (codes "Number") d)
-      (ap (λ n. Some (whole n)) (content_only (λ (k : Msg) (x : ℤ). IsSigned (negsuc 9223372036854775807) (pos 9223372036854775807) k x)
-      (λ (x y : ℤ). x ≡ y) a j.0 c i j.2)) ∙ formula_by w (Formula-F.Number j.0) j.1))
   formula_level_only (Formula-F.Cell a0 a1) h fit =
       lowers_then s (tuple_variant_of (codes "Cell") (Some (whole (pos a0)) ∷ (Some (whole (pos a1)) ∷ []))) _ (FormulaLevelOnly (Formula-F.Cell a0 a1))
-      (tuple_variant_row s formula_names (codes "Cell") 1 refl
-      (AtPlace 1 (Content (OfRow (AndThen (λ k. Only (λ (k : Msg) (x : ℕ). IsUnsigned 65535 k x) (λ (x y : ℕ). x ≡ y) k a0)
+      (tuple_variant_row s formula_names (codes "Cell") 0 refl
+      (AtPlace 0 (Content (OfRow (AndThen (λ k. Only (λ (k : Msg) (x : ℕ). IsUnsigned 65535 k x) (λ (x y : ℕ). x ≡ y) k a0)
       (AndThen (λ k. Only (λ (k : Msg) (x : ℕ). IsUnsigned 65535 k x) (λ (x y : ℕ). x ≡ y) k a1) NoMore))))) _ _ (λ m p. (refl, p))
       (rows_cons s _ _ (λ k. Only (λ (k : Msg) (x : ℕ). IsUnsigned 65535 k x) (λ (x y : ℕ). x ≡ y) k a0) _ (unsigned_only s 65535 a0)
       (rows_cons s _ _ (λ k. Only (λ (k : Msg) (x : ℕ). IsUnsigned 65535 k x) (λ (x y : ℕ). x ≡ y) k a1) _ (unsigned_only s 65535 a1) (rows_none s))))
-      (λ m q w r. variant_both formula_names 1 _ (FormulaCase IsFormula w) _ m q r
+      (λ m q w r. variant_both formula_names 0 _ (FormulaCase IsFormula w) _ m q r
       (λ c i j. let x = content_row _ _ _ c i j.2 (λ ks q r.
       (item_only (λ (k : Msg) (x : ℕ). IsUnsigned 65535 k x) (λ (x y : ℕ). x ≡ y) a0 j.0.0 _ _ _
       (last_only (λ (k : Msg) (x : ℕ). IsUnsigned 65535 k x) (λ (x y : ℕ). x ≡ y) a1 j.0.1)) ks q r) in
       let same : tuple_variant_of (codes "Cell") (Some (whole (pos a0)) ∷ (Some (whole (pos a1)) ∷ [])) ≡ tuple_variant_of (codes "Cell")
       (Some (whole (pos j.0.0)) ∷ (Some (whole (pos j.0.1)) ∷ [])) = λ t. tuple_variant_of (codes "Cell")
       ((ap (λ n. Some (whole (pos n))) x.0) t ∷ ((ap (λ n. Some (whole (pos n))) x.1) t ∷ [])) in same ∙ formula_by w (Formula-F.Cell j.0.0 j.0.1) j.1))
-  formula_level_only (Formula-F.Add a0 a1) h fit =
-      lowers_then s (tuple_variant_of (codes "Add") (formula_data a0.value ∷ (formula_data a1.value ∷ []))) _ (FormulaLevelOnly (Formula-F.Add a0 a1))
-      (tuple_variant_row s formula_names (codes "Add") 2 refl
-      (AtPlace 2 (Content (OfRow (AndThen (λ k. Only (λ (k : Msg) (x : Box Formula Global). IsFormula k x.value)
-      (λ (x y : Box Formula Global). SameFormula x.value y.value) k a0)
-      (AndThen (λ k. Only (λ (k : Msg) (x : Box Formula Global). IsFormula k x.value) (λ (x y : Box Formula Global). SameFormula x.value y.value) k a1)
-      NoMore))))) _ _ (λ m p. (refl, p))
-      (rows_cons s _ _ (λ k. Only (λ (k : Msg) (x : Box Formula Global). IsFormula k x.value) (λ (x y : Box Formula Global). SameFormula x.value y.value) k
-      a0) _ (inside_only s (formula_data a0.value) (λ b. b.value) IsFormula SameFormula a0.value (h.0 fit.0))
-      (rows_cons s _ _ (λ k. Only (λ (k : Msg) (x : Box Formula Global). IsFormula k x.value)
-      (λ (x y : Box Formula Global). SameFormula x.value y.value) k a1) _
-      (inside_only s (formula_data a1.value) (λ b. b.value) IsFormula SameFormula a1.value (h.1 fit.1)) (rows_none s))))
-      (λ m q w r. variant_both formula_names 2 _ (FormulaCase IsFormula w) _ m q r
-      (λ c i j. let x = content_row _ _ _ c i j.2 (λ ks q r.
-      (item_only (λ (k : Msg) (x : Box Formula Global). IsFormula k x.value) (λ (x y : Box Formula Global). SameFormula x.value y.value) a0 j.0.0 _ _ _
-      (last_only (λ (k : Msg) (x : Box Formula Global). IsFormula k x.value) (λ (x y : Box Formula Global). SameFormula x.value y.value) a1 j.0.1)) ks q
-      r) in
-      let same : tuple_variant_of (codes "Add") (formula_data a0.value ∷ (formula_data a1.value ∷ [])) ≡ tuple_variant_of (codes "Add")
-      (formula_data j.0.0.value ∷ (formula_data j.0.1.value ∷ [])) = λ t. tuple_variant_of (codes "Add") ((x.0) t ∷ ((x.1) t ∷ []))
-      in same ∙ formula_by w (Formula-F.Add j.0.0 j.0.1) j.1))
   formula_level_only (Formula-F.Shift a0 a1) h fit =
       lowers_then s (tuple_variant_of (codes "Shift") (Some (whole a0) ∷ (formula_data a1.value ∷ []))) _ (FormulaLevelOnly (Formula-F.Shift a0 a1))
-      (tuple_variant_row s formula_names (codes "Shift") 3 refl
-      (AtPlace 3 (Content (OfRow (AndThen (λ k. Only (λ (k : Msg) (x : ℤ). IsSigned (negsuc 2147483647) (pos 2147483647) k x) (λ (x y : ℤ). x ≡ y) k a0)
+      (tuple_variant_row s formula_names (codes "Shift") 1 refl
+      (AtPlace 1 (Content (OfRow (AndThen (λ k. Only (λ (k : Msg) (x : ℤ). IsSigned (negsuc 2147483647) (pos 2147483647) k x) (λ (x y : ℤ). x ≡ y) k a0)
       (AndThen (λ k. Only (λ (k : Msg) (x : Box Formula Global). IsFormula k x.value) (λ (x y : Box Formula Global). SameFormula x.value y.value) k a1)
       NoMore))))) _ _ (λ m p. (refl, p))
       (rows_cons s _ _ (λ k. Only (λ (k : Msg) (x : ℤ). IsSigned (negsuc 2147483647) (pos 2147483647) k x) (λ (x y : ℤ). x ≡ y) k a0) _
@@ -202,7 +162,7 @@ module _ (s : Settings) where
       (rows_cons s _ _ (λ k. Only (λ (k : Msg) (x : Box Formula Global). IsFormula k x.value)
       (λ (x y : Box Formula Global). SameFormula x.value y.value) k a1) _
       (inside_only s (formula_data a1.value) (λ b. b.value) IsFormula SameFormula a1.value (h fit.1)) (rows_none s))))
-      (λ m q w r. variant_both formula_names 3 _ (FormulaCase IsFormula w) _ m q r
+      (λ m q w r. variant_both formula_names 1 _ (FormulaCase IsFormula w) _ m q r
       (λ c i j. let x = content_row _ _ _ c i j.2 (λ ks q r.
       (item_only (λ (k : Msg) (x : ℤ). IsSigned (negsuc 2147483647) (pos 2147483647) k x) (λ (x y : ℤ). x ≡ y) a0 j.0.0 _ _ _
       (last_only (λ (k : Msg) (x : Box Formula Global). IsFormula k x.value) (λ (x y : Box Formula Global). SameFormula x.value y.value) a1 j.0.1)) ks q
@@ -213,8 +173,8 @@ module _ (s : Settings) where
   formula_level_only (Formula-F.Call a0 a1) h fit =
       lowers_then s (tuple_variant_of (codes "Call") (Some (text (string_bytes a0)) ∷ (slice_of (map formula_data a1.items) ∷ []))) _
       (FormulaLevelOnly (Formula-F.Call a0 a1))
-      (tuple_variant_row s formula_names (codes "Call") 4 refl
-      (AtPlace 4 (Content (OfRow (AndThen (λ k. Only (λ (k : Msg) (x : String Global). IsRaw k (string_bytes x))
+      (tuple_variant_row s formula_names (codes "Call") 2 refl
+      (AtPlace 2 (Content (OfRow (AndThen (λ k. Only (λ (k : Msg) (x : String Global). IsRaw k (string_bytes x))
       (λ (x y : String Global). string_bytes x ≡ string_bytes y) k a0)
       (AndThen (λ k. Only (λ (k : Msg) (x : Vec Formula Global). Row IsFormula k x.items)
       (λ (x y : Vec Formula Global). Alike SameFormula x.items y.items) k a1) NoMore))))) _ _ (λ m p. (refl, p))
@@ -226,7 +186,7 @@ module _ (s : Settings) where
       (slice_row s (map formula_data a1.items) (λ ms. ReadsEach (Only IsFormula SameFormula) ms a1.items)
       (each_row s formula_data FormulaOnly (Only IsFormula SameFormula) (λ w p. p) a1.items (each_from formula_fits FormulaOnly a1.items h fit.1))))
       (rows_none s))))
-      (λ m q w r. variant_both formula_names 4 _ (FormulaCase IsFormula w) _ m q r
+      (λ m q w r. variant_both formula_names 2 _ (FormulaCase IsFormula w) _ m q r
       (λ c i j. let x = content_row _ _ _ c i j.2 (λ ks q r.
       (item_only (λ (k : Msg) (x : String Global). IsRaw k (string_bytes x)) (λ (x y : String Global). string_bytes x ≡ string_bytes y) a0 j.0.0 _ _ _
       (last_only (λ (k : Msg) (x : Vec Formula Global). Row IsFormula k x.items) (λ (x y : Vec Formula Global). Alike SameFormula x.items y.items) a1
@@ -239,8 +199,8 @@ module _ (s : Settings) where
       lowers_then s (tuple_variant_of (codes "If") (formula_data a0.value
       ∷ (formula_data a1.value ∷ (option_of (λ (b : Box Formula Global). formula_data b.value) None ∷ [])))) _
       (FormulaLevelOnly (Formula-F.If a0 a1 None))
-      (tuple_variant_row s formula_names (codes "If") 5 refl
-      (AtPlace 5 (Content (OfRow (AndThen (λ k. Only (λ (k : Msg) (x : Box Formula Global). IsFormula k x.value)
+      (tuple_variant_row s formula_names (codes "If") 3 refl
+      (AtPlace 3 (Content (OfRow (AndThen (λ k. Only (λ (k : Msg) (x : Box Formula Global). IsFormula k x.value)
       (λ (x y : Box Formula Global). SameFormula x.value y.value) k a0)
       (AndThen (λ k. Only (λ (k : Msg) (x : Box Formula Global). IsFormula k x.value) (λ (x y : Box Formula Global). SameFormula x.value y.value) k a1)
       (AndThen (λ k. Only (λ (k : Msg) (x : Option (Box Formula Global)). IsOption (Boxed IsFormula) k x)
@@ -257,7 +217,7 @@ module _ (s : Settings) where
       (option_row s (λ (b : Box Formula Global). formula_data b.value) (λ b. FormulaOnly b.value) (Only (Boxed IsFormula) (λ b c. SameFormula b.value c.value))
       (λ b. formula_other s b.value) (λ b p. inside_only s (formula_data b.value) (λ (b : Box Formula Global). b.value) IsFormula SameFormula b.value p) None
       (option_from (λ (b : Box Formula Global). formula_fits b.value) (λ b. FormulaOnly b.value) None h.2 fit.2))) (rows_none s)))))
-      (λ m q w r. variant_both formula_names 5 _ (FormulaCase IsFormula w) _ m q r
+      (λ m q w r. variant_both formula_names 3 _ (FormulaCase IsFormula w) _ m q r
       (λ c i j. let x = content_row _ _ _ c i j.2 (λ ks q r.
       (item_only (λ (k : Msg) (x : Box Formula Global). IsFormula k x.value) (λ (x y : Box Formula Global). SameFormula x.value y.value) a0 j.0.0 _ _ _
       (item_only (λ (k : Msg) (x : Box Formula Global). IsFormula k x.value) (λ (x y : Box Formula Global). SameFormula x.value y.value) a1 j.0.1 _ _ _
@@ -273,8 +233,8 @@ module _ (s : Settings) where
       lowers_then s (tuple_variant_of (codes "If") (formula_data a0.value
       ∷ (formula_data a1.value ∷ (option_of (λ (b : Box Formula Global). formula_data b.value) (Some a2) ∷ [])))) _
       (FormulaLevelOnly (Formula-F.If a0 a1 (Some a2)))
-      (tuple_variant_row s formula_names (codes "If") 5 refl
-      (AtPlace 5 (Content (OfRow (AndThen (λ k. Only (λ (k : Msg) (x : Box Formula Global). IsFormula k x.value)
+      (tuple_variant_row s formula_names (codes "If") 3 refl
+      (AtPlace 3 (Content (OfRow (AndThen (λ k. Only (λ (k : Msg) (x : Box Formula Global). IsFormula k x.value)
       (λ (x y : Box Formula Global). SameFormula x.value y.value) k a0)
       (AndThen (λ k. Only (λ (k : Msg) (x : Box Formula Global). IsFormula k x.value) (λ (x y : Box Formula Global). SameFormula x.value y.value) k a1)
       (AndThen (λ k. Only (λ (k : Msg) (x : Option (Box Formula Global)). IsOption (Boxed IsFormula) k x)
@@ -293,7 +253,7 @@ module _ (s : Settings) where
       (λ b. formula_other s b.value) (λ b p. inside_only s (formula_data b.value) (λ (b : Box Formula Global). b.value) IsFormula SameFormula b.value p)
       (Some a2)
       (option_from (λ (b : Box Formula Global). formula_fits b.value) (λ b. FormulaOnly b.value) (Some a2) h.2 fit.2))) (rows_none s)))))
-      (λ m q w r. variant_both formula_names 5 _ (FormulaCase IsFormula w) _ m q r
+      (λ m q w r. variant_both formula_names 3 _ (FormulaCase IsFormula w) _ m q r
       (λ c i j. let x = content_row _ _ _ c i j.2 (λ ks q r.
       (item_only (λ (k : Msg) (x : Box Formula Global). IsFormula k x.value) (λ (x y : Box Formula Global). SameFormula x.value y.value) a0 j.0.0 _ _ _
       (item_only (λ (k : Msg) (x : Box Formula Global). IsFormula k x.value) (λ (x y : Box Formula Global). SameFormula x.value y.value) a1 j.0.1 _ _ _

@@ -9,11 +9,11 @@ use Rattle.rmp_decode.specs.Read.{IsUnsigned}
 use Rattle.rmp_decode.specs.Variants.{OfVariant, Case, NoCase, Content}
 use Rattle.rmp_encode.specs.Data.{Data, byte}
 use Rattle.rmp_encode.specs.Trees.{slice_of, newtype_variant_of}
+use Rattle.rmp_recursive.specs.Parts.{Row, InSteps, row_as, row_in, variant_as, variant_in, each_holds, through}
 use Rattle.test_recursive.specs.declared.trees.Tree.{Tree, out-Tree}
 use Rattle.test_recursive.specs.declared.trees.Tree.TheFolds.{ind-Tree, fold-Tree, rec-Tree, map-Tree, rec-roll-Tree, fold_out-Tree}
 use Rattle.test_recursive.specs.declared.trees.Tree.TheOpen.{Tree-F}
 use Rattle.test_recursive.specs.declared.trees.Tree.TheViews.{roll-Tree, out-roll-Tree, roll-out-Tree}
-use Rattle.test_recursive.specs.Recursion.{Row, InSteps, row_as, row_in, variant_as, variant_in, each_holds, through}
 
 abbrev pub tree_names : List (List ℕ)
 tree_names = codes "Leaf" ∷ (codes "Node" ∷ [])

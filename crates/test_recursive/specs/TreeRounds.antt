@@ -16,11 +16,11 @@ use Rattle.rmp_round_trip.specs.OnlyRows.{list_only, lowers_then}
 use Rattle.rmp_round_trip.specs.RoundTrip.{Alike, LowersTo, Only}
 use Rattle.rmp_round_trip.specs.Rounds.{slice_some, each_row, slice_row}
 use Rattle.rmp_round_trip.specs.VariantRounds.{newtype_variant_some, newtype_variant_row, newtype_variant_other}
+use Rattle.rmp_recursive.specs.Parts.{Row, each_from}
+use Rattle.rmp_recursive.specs.Rounds.{each_data, lowers_as, map_alike}
 use Rattle.test_recursive.specs.declared.trees.Tree.{Tree, out-Tree}
 use Rattle.test_recursive.specs.declared.trees.Tree.TheFolds.{map-Tree}
 use Rattle.test_recursive.specs.declared.trees.Tree.TheOpen.{Tree-F}
-use Rattle.test_recursive.specs.Recursion.{Row, each_from}
-use Rattle.test_recursive.specs.RecursionRounds.{each_data, lowers_as, map_alike}
 use Rattle.test_recursive.specs.TreeLevels.{
   TreeCase,
   IsTree,

@@ -1,11 +1,9 @@
-//! Types that lead back to themselves.
+//! A type that contains itself, by hand: it is written as the list of its parts, which the tool derives for no type.
 ghost use Rattle.rmp_decode.specs.Law.{Lawful};
-ghost use Rattle.rmp_decode.specs.Rows.{ReadsEach};
-ghost use Rattle.rmp_decode.specs.Seq.{OfRow};
 ghost use Rattle.std.specs.Prelude.{None, ⊤};
-ghost use Rattle.test_recursive.specs.Recursive.{IsNested, IsRose, nested_data, rose_data};
+ghost use Rattle.test_recursive.specs.NestedLevels.{IsNested, nested_data};
 
-use rmp_decode::{Deserialize, Deserializer, ReadPlaces, Slices};
+use rmp_decode::{Deserialize, Deserializer};
 use rmp_encode::{Serialize, Serializer};
 use rmp_wire::config::SerializerConfig;
 use rmp_wire::{ReadSlice, Sink, Source};
@@ -14,12 +12,6 @@ use rmp_wire::{ReadSlice, Sink, Source};
 #[derive(Drop)]
 pub struct Nested {
     pub sub: Vec<Nested>,
-}
-
-/// More of them.
-#[derive(Drop)]
-pub struct Rose {
-    pub kids: Vec<Rose>,
 }
 
 impl Serialize for Nested {
@@ -35,28 +27,7 @@ impl Serialize for Nested {
         self.sub.serialize(se)
     }
 
-    #[tactic(auto, using(crate::proofs::Levels::nested_no_byte))]
-    fn as_u8(&self, _human: bool) -> Option<u8> {
-        None
-    }
-}
-
-impl Serialize for Rose {
-    ghost data_of = { λ v human. rose_data v };
-
-    ghost is_value = { λ v. ⊤ };
-
-    #[cycle(rose_writing)]
-    fn serialize<W: Sink, C: SerializerConfig>(
-        &self,
-        se: &mut Serializer<W, C>,
-    ) -> Result<(), rmp_encode::Error> {
-        let mut fields = se.serialize_struct("Rose", 1)?;
-        fields.serialize_field("kids", &self.kids)?;
-        fields.end()
-    }
-
-    #[tactic(auto, using(crate::proofs::Levels::rose_no_byte))]
+    #[tactic(auto, using(crate::proofs::NestedLevels::nested_no_byte))]
     fn as_u8(&self, _human: bool) -> Option<u8> {
         None
     }
@@ -89,81 +60,6 @@ impl<'de, R: ReadSlice<'de>> Deserialize<'de, R> for Nested {
     }
 
     fn missing() -> Option<Nested> {
-        None
-    }
-}
-
-// Reads a node, whose only field is its children.
-#[cycle(growing)]
-fn read_rose<R: Source, C: SerializerConfig, P: ReadPlaces<R>>(
-    de: &mut Deserializer<R, C>,
-) -> Result<Rose, rmp_decode::Error>
-    ensures law { Lawful R.Source IsRose de.old de.new result }
-{
-    let mut fields = match de.deserialize_struct("Rose", &["kids"]) {
-        Ok(fields) => fields,
-        Err(e) => return Err(e),
-    };
-    let mut kids: Option<Vec<Rose>> = None;
-    loop {
-        match fields.next_field_by::<P>() {
-            Ok(Some(_)) => match fields.next_value_with(
-                |de: &mut Deserializer<R, C>| -> Result<Vec<Rose>, rmp_decode::Error>
-                    ensures law { Lawful R.Source (λ m v. OfRow (λ ms. ReadsEach IsRose ms v.items) m) de.old de.new result }
-                { read_roses::<R, C, P>(de) },
-            ) {
-                Ok(value) => kids = Some(value),
-                Err(e) => return Err(e),
-            },
-            Ok(None) => break,
-            Err(e) => return Err(e),
-        }
-    }
-    let kids = match kids {
-        Some(kids) => kids,
-        None => match fields.missing_field_or("kids", None) {
-            Ok(kids) => kids,
-            Err(e) => return Err(e),
-        },
-    };
-    match fields.end() {
-        Ok(()) => Ok(Rose { kids }),
-        Err(e) => Err(e),
-    }
-}
-
-// The nodes of a list.
-#[cycle(growing)]
-fn read_roses<R: Source, C: SerializerConfig, P: ReadPlaces<R>>(
-    de: &mut Deserializer<R, C>,
-) -> Result<Vec<Rose>, rmp_decode::Error>
-    ensures law { Lawful R.Source (λ m v. OfRow (λ ms. ReadsEach IsRose ms v.items) m) de.old de.new result }
-{
-    let mut roses = Vec::new(de.alloc());
-    let mut seq = de.deserialize_seq()?;
-    while let Some(rose) = seq.next_element_with(
-        |de: &mut Deserializer<R, C>| -> Result<Rose, rmp_decode::Error>
-            ensures law { Lawful R.Source IsRose de.old de.new result }
-        { read_rose::<R, C, P>(de) },
-    )? {
-        roses.push(rose)?;
-    }
-    seq.end()?;
-    Ok(roses)
-}
-
-impl<'de, R: ReadSlice<'de>> Deserialize<'de, R> for Rose {
-    ghost reads = { λ human lends. IsRose };
-
-    ghost absent = { None };
-
-    fn deserialize<C: SerializerConfig>(
-        de: &mut Deserializer<R, C>,
-    ) -> Result<Rose, rmp_decode::Error> {
-        read_rose::<R, C, Slices<'de>>(de)
-    }
-
-    fn missing() -> Option<Rose> {
         None
     }
 }

@@ -1,4 +1,4 @@
-//! Types that lead back to themselves, whose implementations tools/derive.py writes.
+//! Enums that contain themselves, whose implementations tools/derive.py writes.
 mod derived;
 
 use rmp_wire::{ByteBuf, F32Bits, F64Bits};
@@ -10,21 +10,13 @@ pub enum Tree {
     Node(Vec<Tree>),
 }
 
-/// An expression over numbers, names and truth values.
+/// A term: values of most kinds, and terms in a box, in an option and in a list.
 #[derive(Drop)]
-pub enum Expr {
+pub enum Term {
     Nothing,
     Number(i64),
     Name(String),
     Truth(bool),
-    Not(Box<Expr>),
-    Sum(Vec<Expr>),
-    Product(Vec<Expr>),
-}
-
-/// A term, of leaves of each other kind.
-#[derive(Drop)]
-pub enum Term {
     Letter(char),
     Half(F32Bits),
     Whole(F64Bits),
@@ -33,27 +25,35 @@ pub enum Term {
     Offset(isize),
     Big(u128),
     Wide(i128),
-    Short(u16),
-    Quoted(Box<Term>),
+    Not(Box<Term>),
+    Next(Option<Box<Term>>),
+    Sum(Vec<Term>),
 }
 
-/// A chain of links, each with a number or a name, or a fork.
-#[derive(Drop)]
-pub enum Link {
-    Last(u16),
-    Next(Option<Box<Link>>),
-    Named(String),
-    Fork(Vec<Link>),
-    Other(Option<Box<Link>>),
-}
-
-/// A formula of a table: numbers, cells, and what is made of other formulas.
+/// A formula of a table, whose variants hold several values: those of a cell, and what is made of other formulas.
 #[derive(Drop)]
 pub enum Formula {
-    Number(i64),
     Cell(u16, u16),
-    Add(Box<Formula>, Box<Formula>),
     Shift(i32, Box<Formula>),
     Call(String, Vec<Formula>),
     If(Box<Formula>, Box<Formula>, Option<Box<Formula>>),
+}
+
+/// A rule of a filter, whose variants have fields with names: a size, and what is made of other rules.
+#[derive(Drop)]
+pub enum Rule {
+    Always,
+    Size(u64),
+    Not {
+        rule: Box<Rule>,
+    },
+    // derive: rename_all = "camelCase"
+    Cond {
+        first_test: Box<Rule>,
+        otherwise: Option<Box<Rule>>,
+    },
+    Range {
+        from: i32,
+        to: i32,
+    },
 }

@@ -3,7 +3,7 @@
 use crate::recursive::{read, reads, reads_both, refused, writes};
 use std::alloc::Global;
 use std::test::Fail;
-use test_posts::{Mood, Order, Post, Span, Task};
+use test_recursive::{Mood, Order, Post, Span, Task};
 
 const POST: &[u8] =
     b"\x98\xa1a\x92\x01\xcc\xc8\xaftongue-in-cheek\x92\x05\xce\x00\x01\x11p\x92\xd1\xfe\xd4\xc3\x03\

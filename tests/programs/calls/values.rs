@@ -3,6 +3,8 @@ mod canonical;
 mod check;
 mod example;
 mod floats;
+mod found;
+mod making;
 mod messages;
 mod own_types;
 mod parts;

@@ -51,6 +51,8 @@ pub enum Kind {
     Texts,
     /// A struct of a text and a number, by their names.
     Dog,
+    /// A struct of which two texts are missing, and are copied.
+    Proxy,
     /// A message of any kind that has two parts.
     Pair,
     /// The struct in a map with a name that it doesn't have.
@@ -86,6 +88,7 @@ impl Kind {
             "tree" => Some(Kind::Tree),
             "texts" => Some(Kind::Texts),
             "dog" => Some(Kind::Dog),
+            "proxy" => Some(Kind::Proxy),
             "pair" => Some(Kind::Pair),
             "among" => Some(Kind::Among),
             "queue" => Some(Kind::Queue),
@@ -138,6 +141,8 @@ pub enum Task {
     SkipEmpty,
     /// Lists in one another are checked.
     Check,
+    /// A value is made, copied, and turned into another type and back.
+    Make,
     /// A message is read as a value of the type, and the value is written.
     Again(Kind),
     /// Something is written that takes memory until it ends.
@@ -157,6 +162,7 @@ impl Task {
             "skip" => Some(Task::Skip),
             "skip-empty" => Some(Task::SkipEmpty),
             "check" => Some(Task::Check),
+            "make" => Some(Task::Make),
             "run-lines" => Some(Task::Lines(false)),
             "check-lines" => Some(Task::Lines(true)),
             _ => Task::with_type(name),

@@ -2,13 +2,14 @@
 use crate::job::{Fault, Kept, Kind};
 use rmp_decode::{Deserialize, Deserializer, from_slice};
 use rmp_encode::{Error, Serialize, Serializer, to_vec, to_vec_named};
-use rmp_serde::{Canon, Raw, Value, check_canonical};
+use rmp_serde::{Canon, Raw, Value, check_canonical, from_value, to_value};
 use rmp_wire::config::BytesMode;
 use rmp_wire::{ByteBuf, Ext, ReadRefReader};
 use std::alloc::Global;
 use std::collections::{BTreeMap, BTreeSet, VecDeque};
-use test_derived::{Counted, Dog, Four};
-use test_recursive::{Nested as Lists, Rose, Tree};
+use test_derived::{Counted, Dog, Four, Proxy};
+use test_nodes::Rose;
+use test_recursive::{Nested as Lists, Tree};
 use test_types::{UnkMap, UnkSeq};
 
 /// Lists in maps in a list, and texts.
@@ -153,6 +154,28 @@ pub fn check(rt: &(impl Print + AllocGlobal)) -> Result<(), Fault> {
     Ok(())
 }
 
+// Makes `{"k": [5, "a"]}`, copies it, copies its key, reads a map of a type from it, and makes a value of that map.
+fn made(alloc: Global) -> Result<Vec<u8>, Error> {
+    let items = [Value::from_u64(alloc, 5), Value::from_text(alloc, "a")?];
+    let list = Value::from_items(alloc, &items)?;
+    let map = Value::from_pairs(alloc, &[(Value::from_text(alloc, "k")?, list)])?;
+    let copy = map.clone()?;
+    for part in copy.root().parts() {
+        let _part = part.to_value(alloc)?;
+    }
+    let read: Result<BTreeMap<String, (u8, String)>, rmp_decode::Error> = from_value(alloc, &copy);
+    match read {
+        Ok(typed) => to_vec(alloc, &to_value(alloc, &typed)?),
+        Err(rmp_decode::Error::OutOfMemory) => Err(Error::OutOfMemory),
+        Err(_) => Err(Error::Syntax("not read")),
+    }
+}
+
+/// Makes a value, and prints its bytes or the error.
+pub fn make(rt: &(impl Print + AllocGlobal)) -> Result<(), Fault> {
+    print_written(rt, made(rt.alloc()))
+}
+
 // Reads a message as a value of the type and writes the value, structs by names, and prints the bytes, or the error of the read or the write.
 fn again<'de, T: Deserialize<'de, ReadRefReader<'de>> + Serialize>(
     rt: &(impl Print + AllocGlobal),
@@ -188,6 +211,7 @@ pub fn again_as(rt: &(impl Print + AllocGlobal), kind: Kind) -> Result<(), Fault
             b"\xde\x00\x02\xd9\x01a\xa1b\xa1c\xa0",
         ),
         Kind::Dog => again::<Dog>(rt, b"\xde\x00\x02\xd9\x03age\x05\xa4name\xd9\x03Rex"),
+        Kind::Proxy => again::<Proxy>(rt, b"\x80"),
         Kind::Among => again::<Dog>(rt, b"\x83\xa1x\x81\x05\x90\xa3age\x08\xa4name\xa5Bobby"),
         _ => again_in_others(rt, kind),
     }

@@ -54,6 +54,7 @@ fn work(rt: &(impl Print + AllocGlobal), task: Task) -> Result<(), Fault> {
         Task::Skip => jobs::skip(rt, b"\x92\x81\x05\x91\xa1a\xdc\x00\x01\xc0"),
         Task::SkipEmpty => jobs::skip(rt, b"\x90"),
         Task::Check => jobs::check(rt),
+        Task::Make => jobs::make(rt),
         Task::Again(kind) => jobs::again_as(rt, kind),
         Task::WriteKept(kept) => jobs::write_kept(rt, kept),
         Task::ReadThrough(reading) => through::read(rt, reading),

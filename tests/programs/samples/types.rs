@@ -1,7 +1,7 @@
 //! The structs and enums of the samples that `tools/derive.py` derives, and which no other crate has.
 mod derived;
 
-use rmp_serde::wire::{ByteBuf, Ext};
+use rmp_serde::wire::{ByteBuf, Ext, F64Bits};
 use rmp_serde::{Raw, Value};
 use std::collections::{BTreeMap, BTreeSet};
 use test_derived::{Dog, Four, Unit};
@@ -321,6 +321,44 @@ pub struct DefAll {
     pub d: BTreeMap<u8, u8>,
     // derive: default
     pub e: BTreeSet<u8>,
+}
+
+/// A variant that is a default.
+#[derive(Drop)]
+pub enum Shade {
+    Light,
+    Dark,
+}
+
+/// Texts, options, arrays, tuples, floats and variants are defaults.
+#[derive(Drop)]
+pub struct DefText {
+    // derive: default = "localhost"
+    pub host: String,
+    // derive: default = Some(3)
+    pub tries: Option<u8>,
+    // derive: default = [127, 0, 0, 1]
+    pub address: [u8; 4],
+    // derive: default = (80, -1)
+    pub ports: (u16, i32),
+    // derive: default = 0.5
+    pub load: F64Bits,
+    // derive: default = Shade::Dark
+    pub shade: Shade,
+}
+
+/// Some fields are neither written nor read.
+#[derive(Drop)]
+pub struct Skips {
+    // derive: skip
+    pub a: u8,
+    pub b: u8,
+    // derive: skip, default = 3
+    pub c: u16,
+    // derive: skip
+    pub d: Vec<u8>,
+    // derive: default = 3
+    pub e: u16,
 }
 
 /// The only field has one.

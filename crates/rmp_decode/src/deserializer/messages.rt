@@ -21,7 +21,7 @@ impl<'x, 'de, T: Deserialize<'de, R>, R: ReadSlice<'de>, C: SerializerConfig> It
     for Messages<'x, 'de, T, R, C> {
     type Item = Result<T, Error>;
 
-    ghost next_gives = { λ s r t. YieldsMessage R.Source (T.reads (C.human (config_of s.de.now)) R.lends) s r t };
+    ghost next_gives = { λ s r t. YieldsMessage R.Source (C.human (config_of s.de.now)) R.lends (T.takes_memory R.lends) (T.reads (C.human (config_of s.de.now)) R.lends) T.refuses s r t };
 
     ghost remaining = { messages_left R.Source };
 

@@ -17,8 +17,8 @@ use crate::error::Error;
 use crate::length::fits_u32;
 use crate::ser::Serialize;
 use crate::serializer::Serializer;
-use crate::series::MaybeUnknownLengthCompound;
 use crate::tuple::Tuple;
+use crate::unknown_length::MaybeUnknownLengthCompound;
 use rmp_wire::Sink;
 use rmp_wire::config::SerializerConfig;
 

@@ -67,8 +67,10 @@ impl Node {
 
     /// Returns the head of the node.
     #[inline(always)]
+    #[tactic(auto, unfolding(rmp_wire::specs::Heads::fits_head))]
     pub(crate) fn head(self) -> Head
         ensures head { result ≡ head_in self }
+        ensures fits { fits_head result }
     {
         match self {
             Node::Nil => Head::Nil,

@@ -4,8 +4,12 @@ ghost use Rattle.rmp_wire.specs.Spelling.{head_of};
 ghost use Rattle.rmp_serde.specs.Flat.{head_in};
 ghost use Rattle.rmp_serde.specs.Tokens.{first_tree, row_from};
 
+mod copy;
+mod get;
+mod key;
 mod pairs;
 mod parts;
+mod pointer;
 
 use crate::value::flat::Node;
 use crate::value::{Kind, Value};
@@ -63,12 +67,12 @@ impl Value {
 }
 
 impl<'a> ValueRef<'a> {
-    ghost use Rattle.std.specs.Prelude.{◌<◌, option_map, IfSome};
+    ghost use Rattle.std.specs.Prelude.{◌<◌, ◌↔◌, option_map, IfSome, IsTrue};
     ghost use Rattle.std.specs.Str.{IsUtf8};
-    ghost use Rattle.rmp_wire.specs.Msg.{depth, count};
+    ghost use Rattle.rmp_wire.specs.Msg.{depth, count, nil};
     ghost use Rattle.rmp_serde.specs.Tokens.{past_items};
     ghost use Rattle.rmp_serde.specs.Parts.{row_at, row_after, content_of, parts_of, tree, kind_of, parts_count, item_of, pair_of};
-    ghost use Rattle.rmp_serde.specs.Parts.{truth_of, whole_of, float32_of, float64_of, text_of, bytes_of, extension_of};
+    ghost use Rattle.rmp_serde.specs.Parts.{truth_of, whole_of, natural_of, signed_of, float32_of, float64_of, text_of, bytes_of, extension_of};
 
     // Its first node, which is the node of its head.
     #[inline(always)]
@@ -132,8 +136,15 @@ impl<'a> ValueRef<'a> {
         }
     }
 
+    /// Returns whether it is nil.
+    pub fn is_nil(self) -> bool
+        ensures nil { IsTrue result ↔ (tree self.entry ≡ nil) }
+    {
+        self.kind() == Kind::Nil
+    }
+
     /// Returns the truth value, if it is one.
-    pub fn as_truth(self) -> Option<bool>
+    pub fn as_bool(self) -> Option<bool>
         ensures truth { result ≡ truth_of (tree self.entry) }
     {
         match self.node() {
@@ -149,6 +160,28 @@ impl<'a> ValueRef<'a> {
         match self.node() {
             Node::Unsigned(number) => Some(i128::from(number)),
             Node::Signed(number) => Some(i128::from(number)),
+            _ => None,
+        }
+    }
+
+    /// Returns the whole number, if it is one from 0 on.
+    pub fn as_u64(self) -> Option<u64>
+        ensures number { result ≡ natural_of (tree self.entry) }
+    {
+        match self.node() {
+            Node::Unsigned(number) => Some(number),
+            Node::Signed(number) => u64::try_from(number).ok(),
+            _ => None,
+        }
+    }
+
+    /// Returns the whole number, if it is one up to 9223372036854775807.
+    pub fn as_i64(self) -> Option<i64>
+        ensures number { result ≡ signed_of (tree self.entry) }
+    {
+        match self.node() {
+            Node::Unsigned(number) => i64::try_from(number).ok(),
+            Node::Signed(number) => Some(number),
             _ => None,
         }
     }

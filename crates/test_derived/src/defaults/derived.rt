@@ -2,12 +2,15 @@
 //!
 //! Sum of Level: 155669f7.
 //! Sum of Server: aeefca37.
+//! Sum of Proxy: 415e7a0c.
 //! Sum of Lists: adcdcdb8.
+//! Sum of Page: ef994216.
 //! Sum of Once: 7008c194.
+ghost use Rattle.rmp_decode.specs.Arrays.{Exactly};
 ghost use Rattle.rmp_decode.specs.EnumRefusing.{RefusesEnum, no_content};
 ghost use Rattle.rmp_decode.specs.FieldRefusing.{RefusesFields};
 ghost use Rattle.rmp_decode.specs.Fields.{OfFields, Field, Absent, NoField};
-ghost use Rattle.rmp_decode.specs.Refusing.{part_of};
+ghost use Rattle.rmp_decode.specs.Refusing.{RefusesBoxed, part_of};
 ghost use Rattle.rmp_decode.specs.Rows.{ReadsEach};
 ghost use Rattle.rmp_decode.specs.Variants.{OfVariant, Case, NoCase, Bare};
 ghost use Rattle.rmp_encode.specs.Data.{unit_variant};
@@ -20,28 +23,31 @@ ghost use Rattle.rmp_ends.specs.EnumEnds.{enum_inside, no_content_inside};
 ghost use Rattle.rmp_ends.specs.FieldEnds.{fields_inside};
 ghost use Rattle.rmp_ends.specs.LeafEnds.{kind_inside, number_inside, char_inside, string_inside};
 ghost use Rattle.rmp_ends.specs.MapEnds.{map_inside};
-ghost use Rattle.rmp_ends.specs.RowEnds.{each_inside, option_inside, tuple_inside};
-ghost use Rattle.rmp_round_trip.specs.LeafRounds.{byte_row, unsigned_row_16, unsigned_row_32, unsigned_row_64, signed_row_8, signed_row_32};
-ghost use Rattle.rmp_round_trip.specs.LeafRounds.{truth_row, char_row, string_row, buffer_row, text_other};
+ghost use Rattle.rmp_ends.specs.RowEnds.{array_inside, box_inside, each_inside, option_inside, tuple_inside};
+ghost use Rattle.rmp_round_trip.specs.LeafRounds.{byte_row, unsigned_row_16, unsigned_row_32, unsigned_row_64, signed_row_8, signed_row_32, truth_row};
+ghost use Rattle.rmp_round_trip.specs.LeafRounds.{float64_row, char_row, string_row, buffer_row, byte_other, text_other};
 ghost use Rattle.rmp_round_trip.specs.MapRounds.{mapping_some, map_row, pairs_row, set_row};
 ghost use Rattle.rmp_round_trip.specs.OnlyFields.{AtPlace, AnyContent, field_only, fields_both, last_field, variant_both};
-ghost use Rattle.rmp_round_trip.specs.OnlyLeaves.{truth_only, byte_only, unsigned_only, signed_only, char_only, string_only, buffer_only};
+ghost use Rattle.rmp_round_trip.specs.OnlyLeaves.{truth_only, byte_only, unsigned_only, signed_only, float64_only, char_only, string_only, buffer_only};
 ghost use Rattle.rmp_round_trip.specs.OnlyMaps.{map_only, set_only};
-ghost use Rattle.rmp_round_trip.specs.OnlyRows.{item_only, last_only, list_only, lowers_then, option_only, row_both};
+ghost use Rattle.rmp_round_trip.specs.OnlyRows.{array_only, item_only, last_only, list_only, lowers_then, option_only, row_both};
 ghost use Rattle.rmp_round_trip.specs.RoundTrip.{Only};
-ghost use Rattle.rmp_round_trip.specs.Rounds.{each_some, each_row, option_some, option_row, slice_some, slice_row};
-ghost use Rattle.rmp_round_trip.specs.Rounds.{tuple_row, sequence_some, sequence_row, rows_none, rows_cons};
+ghost use Rattle.rmp_round_trip.specs.Rounds.{each_some, each_row, rows_map, option_some, option_row, slice_some, slice_row};
+ghost use Rattle.rmp_round_trip.specs.Rounds.{tuple_some, tuple_row, sequence_some, sequence_row, rows_none, rows_cons};
 ghost use Rattle.rmp_round_trip.specs.StructRounds.{tuple_all, structure_all, structure_row, structure_other, fields_none, fields_cons};
 ghost use Rattle.rmp_round_trip.specs.VariantRounds.{bare_row, bare_other};
 ghost use Rattle.rmp_wire.specs.Types.{buffer_bytes};
 ghost use Rattle.std.proofs.Common.{refl};
 ghost use Rattle.std.proofs.lemmas.Cmp.{on_total, nat_list_cmp_total};
 ghost use Rattle.std.specs.Option.{is_none};
-ghost use Rattle.std.specs.Prelude.{◌≡◌, ◌∷◌, [], None, Some, codes, false, ⊤, string_bytes, true, pos, negsuc};
+ghost use Rattle.std.specs.Prelude.{◌≡◌, ◌∷◌, [], None, Some, codes, false, ⊤, IfOk, MatchOption, string_bytes, true, pos, negsuc};
 ghost use Rattle.test_derived.specs.declared.defaults.Level.TheVariants as the_level;
-ghost use Rattle.test_derived.specs.declared.defaults.TheConstants.{CORNER, PLAIN, TRIES};
+ghost use Rattle.test_derived.specs.declared.defaults.TheConstants.{CORNER, NAME, PLAIN, TRIES};
 
-use super::{BTreeMap, BTreeSet, ByteBuf, CORNER, Level, Lists, Once, PLAIN, Server, TRIES};
+use super::{
+    BTreeMap, BTreeSet, ByteBuf, CORNER, F64Bits, Level, Lists, NAME, Once, PLAIN, Page, Proxy,
+    Server, TRIES,
+};
 use rmp_decode::{Defaulted, Deserialize, Deserializer, ReadFields};
 use rmp_encode::{Elements, Serialize, Serializer};
 use rmp_ends::EndsInside;
@@ -434,6 +440,277 @@ impl<'de, R: ReadSlice<'de>> EndsInside<'de, R> for Server {
     ) };
 }
 
+impl Serialize for Proxy {
+    ghost data_of = { λ v human. structure_of ((codes "host", ⟦<String as Serialize>⟧.data_of v.host human)
+        ∷ ((codes "tries", ⟦<Option<u8> as Serialize>⟧.data_of v.tries human)
+        ∷ ((codes "name", ⟦<String as Serialize>⟧.data_of v.name human)
+        ∷ ((codes "address", ⟦<[u8; 4] as Serialize>⟧.data_of v.address human)
+        ∷ ((codes "ports", ⟦<(u16, i32) as Serialize>⟧.data_of v.ports human)
+        ∷ ((codes "load", ⟦<F64Bits as Serialize>⟧.data_of v.load human) ∷ ((codes "level", ⟦<Level as Serialize>⟧.data_of v.level human) ∷ []))))))) };
+
+    ghost is_value = { λ v. ⟦<String as Serialize>⟧.is_value v.host × ⟦<Option<u8> as Serialize>⟧.is_value v.tries × ⟦<String as Serialize>⟧.is_value v.name
+        × ⟦<[u8; 4] as Serialize>⟧.is_value v.address × ⟦<(u16, i32) as Serialize>⟧.is_value v.ports × ⟦<F64Bits as Serialize>⟧.is_value v.load
+        × ⟦<Level as Serialize>⟧.is_value v.level };
+
+    ghost takes_memory = { λ s. one_of (⟦<String as Serialize>⟧.takes_memory s
+        ∷ (⟦<Option<u8> as Serialize>⟧.takes_memory s ∷ (⟦<String as Serialize>⟧.takes_memory s
+        ∷ (⟦<[u8; 4] as Serialize>⟧.takes_memory s ∷ (⟦<(u16, i32) as Serialize>⟧.takes_memory s
+        ∷ (⟦<F64Bits as Serialize>⟧.takes_memory s ∷ (⟦<Level as Serialize>⟧.takes_memory s ∷ []))))))) };
+
+    ghost refuses = { λ v. OfParts ⊥ (⟦<String as Serialize>⟧.refuses v.host
+        ∷ (⟦<Option<u8> as Serialize>⟧.refuses v.tries ∷ (⟦<String as Serialize>⟧.refuses v.name
+        ∷ (⟦<[u8; 4] as Serialize>⟧.refuses v.address ∷ (⟦<(u16, i32) as Serialize>⟧.refuses v.ports
+        ∷ (⟦<F64Bits as Serialize>⟧.refuses v.load ∷ (⟦<Level as Serialize>⟧.refuses v.level ∷ []))))))) };
+
+    fn serialize<W: Sink, C: SerializerConfig>(
+        &self,
+        se: &mut Serializer<W, C>,
+    ) -> Result<(), rmp_encode::Error> {
+        let parts = rmp_encode::Seven {
+            first: &self.host,
+            second: &self.tries,
+            third: &self.name,
+            fourth: &self.address,
+            fifth: &self.ports,
+            sixth: &self.load,
+            seventh: &self.level,
+        };
+        se.serialize_fields(
+            "Proxy",
+            &["host", "tries", "name", "address", "ports", "load", "level"],
+            &parts,
+        )
+    }
+
+    #[tactic(auto, using(rmp_encode::proofs::Fields::structure_no_byte))]
+    fn as_u8(&self, _human: bool) -> Option<u8> {
+        None
+    }
+}
+
+impl<'de, R: ReadSlice<'de>> Deserialize<'de, R> for Proxy {
+    ghost reads = { λ human lends m v. OfFields (codes "host"
+        ∷ (codes "tries" ∷ (codes "name" ∷ (codes "address" ∷ (codes "ports" ∷ (codes "load" ∷ (codes "level" ∷ [])))))))
+        (Field (λ j. ⟦<String as Deserialize<'de, R>>⟧.reads human lends j v.host) (string_bytes v.host ≡ codes "localhost")
+        (Field (λ j. ⟦<Option<u8> as Deserialize<'de, R>>⟧.reads human lends j v.tries) (v.tries ≡ Some 3)
+        (Field (λ j. ⟦<String as Deserialize<'de, R>>⟧.reads human lends j v.name) (string_bytes v.name ≡ NAME.now)
+        (Field (λ j. ⟦<[u8; 4] as Deserialize<'de, R>>⟧.reads human lends j v.address) (v.address ≡ 127 ∷ (0 ∷ (0 ∷ (1 ∷ []))))
+        (Field (λ j. ⟦<(u16, i32) as Deserialize<'de, R>>⟧.reads human lends j v.ports) (v.ports ≡ (80, negsuc 0))
+        (Field (λ j. ⟦<F64Bits as Deserialize<'de, R>>⟧.reads human lends j v.load) (v.load ≡ record { 0 = 4602678819172646912 })
+        (Field (λ j. ⟦<Level as Deserialize<'de, R>>⟧.reads human lends j v.level) (v.level ≡ the_level.Loud) NoField))))))) m };
+
+    ghost absent = { None };
+
+    ghost refuses = { RefusesBoxed {V = Unit {0}} (λ human lends m v. Unit {0})
+        (RefusesFields (codes "host" ∷ (codes "tries" ∷ (codes "name" ∷ (codes "address" ∷ (codes "ports" ∷ (codes "load" ∷ (codes "level" ∷ [])))))))
+        (is_none ⟦<Defaulted<String> as Deserialize<'de, R>>⟧.absent
+        ∷ (is_none ⟦<Defaulted<Option<u8>> as Deserialize<'de, R>>⟧.absent
+        ∷ (is_none ⟦<Defaulted<String> as Deserialize<'de, R>>⟧.absent
+        ∷ (is_none ⟦<Defaulted<[u8; 4]> as Deserialize<'de, R>>⟧.absent
+        ∷ (is_none ⟦<Defaulted<(u16, i32)> as Deserialize<'de, R>>⟧.absent
+        ∷ (is_none ⟦<Defaulted<F64Bits> as Deserialize<'de, R>>⟧.absent ∷ (is_none ⟦<Defaulted<Level> as Deserialize<'de, R>>⟧.absent ∷ [])))))))
+        (part_of ⟦<Defaulted<String> as Deserialize<'de, R>>⟧.reads ⟦<Defaulted<String> as Deserialize<'de, R>>⟧.refuses
+        ∷ (part_of ⟦<Defaulted<Option<u8>> as Deserialize<'de, R>>⟧.reads ⟦<Defaulted<Option<u8>> as Deserialize<'de, R>>⟧.refuses
+        ∷ (part_of ⟦<Defaulted<String> as Deserialize<'de, R>>⟧.reads ⟦<Defaulted<String> as Deserialize<'de, R>>⟧.refuses
+        ∷ (part_of ⟦<Defaulted<[u8; 4]> as Deserialize<'de, R>>⟧.reads ⟦<Defaulted<[u8; 4]> as Deserialize<'de, R>>⟧.refuses
+        ∷ (part_of ⟦<Defaulted<(u16, i32)> as Deserialize<'de, R>>⟧.reads ⟦<Defaulted<(u16, i32)> as Deserialize<'de, R>>⟧.refuses
+        ∷ (part_of ⟦<Defaulted<F64Bits> as Deserialize<'de, R>>⟧.reads ⟦<Defaulted<F64Bits> as Deserialize<'de, R>>⟧.refuses
+        ∷ (part_of ⟦<Defaulted<Level> as Deserialize<'de, R>>⟧.reads ⟦<Defaulted<Level> as Deserialize<'de, R>>⟧.refuses ∷ [])))))))) };
+
+    fn deserialize<C: SerializerConfig>(
+        de: &mut Deserializer<R, C>,
+    ) -> Result<Proxy, rmp_decode::Error> {
+        let read: Result<
+            (
+                Defaulted<String>,
+                Defaulted<Option<u8>>,
+                Defaulted<String>,
+                Defaulted<[u8; 4]>,
+                (
+                    Defaulted<(u16, i32)>,
+                    (Defaulted<F64Bits>, (Defaulted<Level>, ())),
+                ),
+            ),
+            rmp_decode::Error,
+        > = rmp_decode::read_fields_7(
+            de,
+            &["host", "tries", "name", "address", "ports", "load", "level"],
+        );
+        match read {
+            Ok(parts) => {
+                let (host, tries, name, address, (ports, (load, (level, ())))) = parts;
+                let host = match text_or(de.alloc(), host.value, "localhost") {
+                    Ok(host) => host,
+                    Err(_) => return Err(de.refuse(rmp_decode::Error::OutOfMemory)),
+                };
+                let tries = tries.value.unwrap_or(Some(3));
+                let name = match text_or(de.alloc(), name.value, NAME) {
+                    Ok(name) => name,
+                    Err(_) => return Err(de.refuse(rmp_decode::Error::OutOfMemory)),
+                };
+                let address = address.value.unwrap_or([127, 0, 0, 1]);
+                let ports = ports.value.unwrap_or((80, -1));
+                let load = load.value.unwrap_or(F64Bits(4602678819172646912));
+                let level = level.value.unwrap_or(Level::Loud);
+                return Ok(Proxy {
+                    host,
+                    tries,
+                    name,
+                    address,
+                    ports,
+                    load,
+                    level,
+                });
+            }
+            Err(e) => return Err(e),
+        }
+    }
+
+    fn missing() -> Option<Proxy> {
+        None
+    }
+}
+
+impl<'de, R: ReadSlice<'de>> RoundTrip<'de, R> for Proxy {
+    ghost use Rattle.test_derived.specs.contracts.defaults.derived.LevelRoundTrip.TheImpl.Laws as level_rounds;
+    ghost use mir.Syntax.{given};
+
+    ghost has_data = { λ human v. structure_all ((codes "host", ⟦<String as Serialize>⟧.data_of v.host human)
+        ∷ ((codes "tries", ⟦<Option<u8> as Serialize>⟧.data_of v.tries human)
+        ∷ ((codes "name", ⟦<String as Serialize>⟧.data_of v.name human)
+        ∷ ((codes "address", ⟦<[u8; 4] as Serialize>⟧.data_of v.address human)
+        ∷ ((codes "ports", ⟦<(u16, i32) as Serialize>⟧.data_of v.ports human)
+        ∷ ((codes "load", ⟦<F64Bits as Serialize>⟧.data_of v.load human) ∷ ((codes "level", ⟦<Level as Serialize>⟧.data_of v.level human) ∷ []))))))) (
+          refl,
+          (
+            (option_some (λ x. ⟦<u8 as Serialize>⟧.data_of x human) (λ x1. refl) v.tries),
+            (
+              refl,
+              (
+                (tuple_some _ (each_some (λ x. ⟦<u8 as Serialize>⟧.data_of x human) (λ x2. refl) v.address)),
+                (
+                  (tuple_all (⟦<u16 as Serialize>⟧.data_of v.ports.0 human ∷ (⟦<i32 as Serialize>⟧.data_of v.ports.1 human ∷ [])) (refl, (refl, tt))),
+                  (refl, ((level_rounds.has_data-law R.row R.ReadSlice.own (given 0) R.Source (given 0) human v.level), tt)),
+                ),
+              ),
+            ),
+          ),
+        ) };
+
+    ghost round = { λ lent s v fits. structure_row s (codes "host"
+        ∷ (codes "tries" ∷ (codes "name" ∷ (codes "address" ∷ (codes "ports" ∷ (codes "load" ∷ (codes "level" ∷ []))))))) _ _ refl
+        (fields_cons s (codes "host") _ _ _ (λ j. ⟦<String as Deserialize<'de, R>>⟧.reads s.human R.lends j v.host)
+        (string_bytes v.host ≡ codes "localhost") _ (string_row s (string_bytes v.host))
+        (fields_cons s (codes "tries") _ _ _ (λ j. ⟦<Option<u8> as Deserialize<'de, R>>⟧.reads s.human R.lends j v.tries) (v.tries ≡ Some 3) _
+        (option_row s (λ x. ⟦<u8 as Serialize>⟧.data_of x s.human) ⟦<u8 as Serialize>⟧.is_value (⟦<u8 as Deserialize<'de, R>>⟧.reads s.human R.lends)
+        (λ x5. byte_other s x5) (λ x4 h4. (byte_row s x4 h4)) v.tries fits.1)
+        (fields_cons s (codes "name") _ _ _ (λ j. ⟦<String as Deserialize<'de, R>>⟧.reads s.human R.lends j v.name) (string_bytes v.name ≡ NAME.now) _
+        (string_row s (string_bytes v.name)) (fields_cons s (codes "address") _ _ _
+        (λ j. ⟦<[u8; 4] as Deserialize<'de, R>>⟧.reads s.human R.lends j v.address) (v.address ≡ 127 ∷ (0 ∷ (0 ∷ (1 ∷ [])))) _
+        (tuple_row s _ (Exactly 4 (⟦<u8 as Deserialize<'de, R>>⟧.reads s.human R.lends) v.address)
+        (rows_map s _ _ _ (λ ms each. (fits.3.0, each)) (each_row s (λ x. ⟦<u8 as Serialize>⟧.data_of x s.human) ⟦<u8 as Serialize>⟧.is_value
+        (⟦<u8 as Deserialize<'de, R>>⟧.reads s.human R.lends) (λ x6 h6. (byte_row s x6 h6)) v.address fits.3.1)))
+        (fields_cons s (codes "ports") _ _ _ (λ j. ⟦<(u16, i32) as Deserialize<'de, R>>⟧.reads s.human R.lends j v.ports) (v.ports ≡ (80, negsuc 0)) _
+        (tuple_row s _ _ (rows_cons s _ _ (λ j. ⟦<u16 as Deserialize<'de, R>>⟧.reads s.human R.lends j v.ports.0) _ (unsigned_row_16 s v.ports.0 fits.4.0)
+        (rows_cons s _ _ (λ j. ⟦<i32 as Deserialize<'de, R>>⟧.reads s.human R.lends j v.ports.1) _ (signed_row_32 s v.ports.1 fits.4.1) (rows_none s))))
+        (fields_cons s (codes "load") _ _ _ (λ j. ⟦<F64Bits as Deserialize<'de, R>>⟧.reads s.human R.lends j v.load)
+        (v.load ≡ record { 0 = 4602678819172646912 }) _ (float64_row s v.load.0)
+        (fields_cons s (codes "level") _ _ _ (λ j. ⟦<Level as Deserialize<'de, R>>⟧.reads s.human R.lends j v.level) (v.level ≡ the_level.Loud) _
+        (level_rounds.round-law R.row R.ReadSlice.own (given 0) R.Source (given 0) (λ e. cc) s v.level fits.6) (fields_none s)))))))) };
+
+    ghost same = { λ v w. ⟦<String as RoundTrip<'de, R>>⟧.same v.host w.host × ⟦<Option<u8> as RoundTrip<'de, R>>⟧.same v.tries w.tries
+        × ⟦<String as RoundTrip<'de, R>>⟧.same v.name w.name × ⟦<[u8; 4] as RoundTrip<'de, R>>⟧.same v.address w.address
+        × ⟦<(u16, i32) as RoundTrip<'de, R>>⟧.same v.ports w.ports × ⟦<F64Bits as RoundTrip<'de, R>>⟧.same v.load w.load
+        × ⟦<Level as RoundTrip<'de, R>>⟧.same v.level w.level };
+
+    ghost only = { λ s v fits. lowers_then s _ _ (λ m. (w : _) → (⟦<Proxy as Deserialize<'de, R>>⟧.reads s.human R.lends) m w
+        → ⟦<String as RoundTrip<'de, R>>⟧.same v.host w.host × ⟦<Option<u8> as RoundTrip<'de, R>>⟧.same v.tries w.tries
+        × ⟦<String as RoundTrip<'de, R>>⟧.same v.name w.name × ⟦<[u8; 4] as RoundTrip<'de, R>>⟧.same v.address w.address
+        × ⟦<(u16, i32) as RoundTrip<'de, R>>⟧.same v.ports w.ports × ⟦<F64Bits as RoundTrip<'de, R>>⟧.same v.load w.load
+        × ⟦<Level as RoundTrip<'de, R>>⟧.same v.level w.level)
+        (structure_row s (codes "host" ∷ (codes "tries" ∷ (codes "name" ∷ (codes "address" ∷ (codes "ports" ∷ (codes "load" ∷ (codes "level" ∷ []))))))) _ _
+        refl (fields_cons s (codes "host") _ _ _ (λ j. Only (⟦<String as Deserialize<'de, R>>⟧.reads s.human R.lends) ⟦<String as RoundTrip<'de, R>>⟧.same j
+        v.host) ⊥ _ (string_only s (λ w. string_bytes w) (string_bytes v.host))
+        (fields_cons s (codes "tries") _ _ _ (λ j. Only (⟦<Option<u8> as Deserialize<'de, R>>⟧.reads s.human R.lends)
+        ⟦<Option<u8> as RoundTrip<'de, R>>⟧.same j v.tries) ⊥ _
+        (option_only s _ (⟦<u8 as Deserialize<'de, R>>⟧.reads s.human R.lends) ⟦<u8 as RoundTrip<'de, R>>⟧.same v.tries
+        (option_row s (λ x. ⟦<u8 as Serialize>⟧.data_of x s.human) ⟦<u8 as Serialize>⟧.is_value
+        (Only (⟦<u8 as Deserialize<'de, R>>⟧.reads s.human R.lends) ⟦<u8 as RoundTrip<'de, R>>⟧.same) (λ x2. byte_other s x2) (λ x1 h1. (byte_only s x1))
+        v.tries fits.1)) (fields_cons s (codes "name") _ _ _
+        (λ j. Only (⟦<String as Deserialize<'de, R>>⟧.reads s.human R.lends) ⟦<String as RoundTrip<'de, R>>⟧.same j v.name) ⊥ _
+        (string_only s (λ w. string_bytes w) (string_bytes v.name))
+        (fields_cons s (codes "address") _ _ _ (λ j. Only (⟦<[u8; 4] as Deserialize<'de, R>>⟧.reads s.human R.lends) ⟦<[u8; 4] as RoundTrip<'de, R>>⟧.same j
+        v.address) ⊥ _ (array_only s _ 4 (⟦<u8 as Deserialize<'de, R>>⟧.reads s.human R.lends) ⟦<u8 as RoundTrip<'de, R>>⟧.same v.address
+        (tuple_row s _ (λ ms. ReadsEach (Only (⟦<u8 as Deserialize<'de, R>>⟧.reads s.human R.lends) ⟦<u8 as RoundTrip<'de, R>>⟧.same) ms v.address)
+        (each_row s (λ x. ⟦<u8 as Serialize>⟧.data_of x s.human) ⟦<u8 as Serialize>⟧.is_value
+        (Only (⟦<u8 as Deserialize<'de, R>>⟧.reads s.human R.lends) ⟦<u8 as RoundTrip<'de, R>>⟧.same) (λ x3 h3. (byte_only s x3)) v.address fits.3.1)))
+        (fields_cons s (codes "ports") _ _ _ (λ j. Only (⟦<(u16, i32) as Deserialize<'de, R>>⟧.reads s.human R.lends)
+        ⟦<(u16, i32) as RoundTrip<'de, R>>⟧.same j v.ports) ⊥ _
+        (lowers_then s _ _ (λ j. Only (⟦<(u16, i32) as Deserialize<'de, R>>⟧.reads s.human R.lends) ⟦<(u16, i32) as RoundTrip<'de, R>>⟧.same j v.ports)
+        (tuple_row s _ _ (rows_cons s _ _ (λ j. Only (⟦<u16 as Deserialize<'de, R>>⟧.reads s.human R.lends) ⟦<u16 as RoundTrip<'de, R>>⟧.same j v.ports.0) _
+        (unsigned_only s 65535 v.ports.0) (rows_cons s _ _
+        (λ j. Only (⟦<i32 as Deserialize<'de, R>>⟧.reads s.human R.lends) ⟦<i32 as RoundTrip<'de, R>>⟧.same j v.ports.1) _
+        (signed_only s (negsuc 2147483647) (pos 2147483647) v.ports.1) (rows_none s))))
+        (λ m q w r. row_both _ _ _ m q r (item_only (⟦<u16 as Deserialize<'de, R>>⟧.reads s.human R.lends) ⟦<u16 as RoundTrip<'de, R>>⟧.same v.ports.0 w.0 _
+        _ _ (last_only (⟦<i32 as Deserialize<'de, R>>⟧.reads s.human R.lends) ⟦<i32 as RoundTrip<'de, R>>⟧.same v.ports.1 w.1))))
+        (fields_cons s (codes "load") _ _ _ (λ j. Only (⟦<F64Bits as Deserialize<'de, R>>⟧.reads s.human R.lends) ⟦<F64Bits as RoundTrip<'de, R>>⟧.same j
+        v.load) ⊥ _ (float64_only s (λ w. w.0) v.load.0) (fields_cons s (codes "level") _ _ _
+        (λ j. Only (⟦<Level as Deserialize<'de, R>>⟧.reads s.human R.lends) ⟦<Level as RoundTrip<'de, R>>⟧.same j v.level) ⊥ _
+        (level_rounds.only-law R.row R.ReadSlice.own (given 0) R.Source (given 0) s v.level fits.6) (fields_none s)))))))))
+        (λ m q w r. fields_both (codes "host" ∷ (codes "tries"
+        ∷ (codes "name" ∷ (codes "address" ∷ (codes "ports" ∷ (codes "load" ∷ (codes "level" ∷ []))))))) _ _ _ m q r
+        (λ ks i j. let x = field_only (⟦<String as Deserialize<'de, R>>⟧.reads s.human R.lends) ⟦<String as RoundTrip<'de, R>>⟧.same v.host w.host _ _ _ _
+        (field_only (⟦<Option<u8> as Deserialize<'de, R>>⟧.reads s.human R.lends) ⟦<Option<u8> as RoundTrip<'de, R>>⟧.same v.tries w.tries _ _ _ _
+        (field_only (⟦<String as Deserialize<'de, R>>⟧.reads s.human R.lends) ⟦<String as RoundTrip<'de, R>>⟧.same v.name w.name _ _ _ _
+        (field_only (⟦<[u8; 4] as Deserialize<'de, R>>⟧.reads s.human R.lends) ⟦<[u8; 4] as RoundTrip<'de, R>>⟧.same v.address w.address _ _ _ _
+        (field_only (⟦<(u16, i32) as Deserialize<'de, R>>⟧.reads s.human R.lends) ⟦<(u16, i32) as RoundTrip<'de, R>>⟧.same v.ports w.ports _ _ _ _
+        (field_only (⟦<F64Bits as Deserialize<'de, R>>⟧.reads s.human R.lends) ⟦<F64Bits as RoundTrip<'de, R>>⟧.same v.load w.load _ _ _ _
+        (last_field (⟦<Level as Deserialize<'de, R>>⟧.reads s.human R.lends) ⟦<Level as RoundTrip<'de, R>>⟧.same v.level w.level _)))))) ks i j
+        in (x.0, x.1.0, x.1.1.0, x.1.1.1.0, x.1.1.1.1.0, x.1.1.1.1.1.0, x.1.1.1.1.1.1))) };
+}
+
+impl NeverNil for Proxy {
+    ghost never_nil = { λ s v. structure_other s _ };
+}
+
+impl<'de, R: ReadSlice<'de>> EndsInside<'de, R> for Proxy {
+    ghost use Rattle.test_derived.specs.contracts.defaults.derived.LevelEndsInside.TheImpl.Laws as level_ends;
+    ghost use mir.Syntax.{given};
+
+    ghost ends_inside = { box_inside {V = Unit {0}} (λ human lends m v. Unit {0})
+        (RefusesFields (codes "host" ∷ (codes "tries" ∷ (codes "name" ∷ (codes "address" ∷ (codes "ports" ∷ (codes "load" ∷ (codes "level" ∷ [])))))))
+        (is_none ⟦<Defaulted<String> as Deserialize<'de, R>>⟧.absent
+        ∷ (is_none ⟦<Defaulted<Option<u8>> as Deserialize<'de, R>>⟧.absent
+        ∷ (is_none ⟦<Defaulted<String> as Deserialize<'de, R>>⟧.absent
+        ∷ (is_none ⟦<Defaulted<[u8; 4]> as Deserialize<'de, R>>⟧.absent
+        ∷ (is_none ⟦<Defaulted<(u16, i32)> as Deserialize<'de, R>>⟧.absent
+        ∷ (is_none ⟦<Defaulted<F64Bits> as Deserialize<'de, R>>⟧.absent ∷ (is_none ⟦<Defaulted<Level> as Deserialize<'de, R>>⟧.absent ∷ [])))))))
+        (part_of ⟦<Defaulted<String> as Deserialize<'de, R>>⟧.reads ⟦<Defaulted<String> as Deserialize<'de, R>>⟧.refuses
+        ∷ (part_of ⟦<Defaulted<Option<u8>> as Deserialize<'de, R>>⟧.reads ⟦<Defaulted<Option<u8>> as Deserialize<'de, R>>⟧.refuses
+        ∷ (part_of ⟦<Defaulted<String> as Deserialize<'de, R>>⟧.reads ⟦<Defaulted<String> as Deserialize<'de, R>>⟧.refuses
+        ∷ (part_of ⟦<Defaulted<[u8; 4]> as Deserialize<'de, R>>⟧.reads ⟦<Defaulted<[u8; 4]> as Deserialize<'de, R>>⟧.refuses
+        ∷ (part_of ⟦<Defaulted<(u16, i32)> as Deserialize<'de, R>>⟧.reads ⟦<Defaulted<(u16, i32)> as Deserialize<'de, R>>⟧.refuses
+        ∷ (part_of ⟦<Defaulted<F64Bits> as Deserialize<'de, R>>⟧.reads ⟦<Defaulted<F64Bits> as Deserialize<'de, R>>⟧.refuses
+        ∷ (part_of ⟦<Defaulted<Level> as Deserialize<'de, R>>⟧.reads ⟦<Defaulted<Level> as Deserialize<'de, R>>⟧.refuses ∷ []))))))))
+        (fields_inside _ _ _ (
+          string_inside,
+          (
+            (option_inside ⟦<u8 as Deserialize<'de, R>>⟧.refuses number_inside),
+            (
+              string_inside,
+              (
+                (array_inside _ 4 ⟦<u8 as Deserialize<'de, R>>⟧.reads ⟦<u8 as Deserialize<'de, R>>⟧.refuses number_inside),
+                (
+                  (tuple_inside (part_of ⟦<u16 as Deserialize<'de, R>>⟧.reads ⟦<u16 as Deserialize<'de, R>>⟧.refuses
+                      ∷ (part_of ⟦<i32 as Deserialize<'de, R>>⟧.reads ⟦<i32 as Deserialize<'de, R>>⟧.refuses ∷ [])) (number_inside, (number_inside, tt))),
+                  (kind_inside, ((level_ends.ends_inside-law R.row R.ReadSlice.own (given 0) R.Source (given 0)), tt)),
+                ),
+              ),
+            ),
+          ),
+        )) };
+}
+
 impl Serialize for Lists {
     ghost data_of = { λ v human. structure_of ((codes "name", ⟦<String as Serialize>⟧.data_of v.name human)
         ∷ ((codes "all", ⟦<Vec<u16> as Serialize>⟧.data_of v.list human)
@@ -624,6 +901,78 @@ impl<'de, R: ReadSlice<'de>> EndsInside<'de, R> for Lists {
     ) };
 }
 
+impl Serialize for Page {
+    ghost data_of = { λ v human. structure_of ((codes "title", ⟦<String as Serialize>⟧.data_of v.title human)
+        ∷ ((codes "edition", ⟦<u16 as Serialize>⟧.data_of v.edition human) ∷ [])) };
+
+    ghost is_value = { λ v. ⟦<String as Serialize>⟧.is_value v.title × ⟦<u16 as Serialize>⟧.is_value v.edition };
+
+    ghost takes_memory = { λ s. one_of (⟦<String as Serialize>⟧.takes_memory s ∷ (⟦<u16 as Serialize>⟧.takes_memory s ∷ [])) };
+
+    ghost refuses = { λ v. OfParts ⊥ (⟦<String as Serialize>⟧.refuses v.title ∷ (⟦<u16 as Serialize>⟧.refuses v.edition ∷ [])) };
+
+    fn serialize<W: Sink, C: SerializerConfig>(
+        &self,
+        se: &mut Serializer<W, C>,
+    ) -> Result<(), rmp_encode::Error> {
+        let parts = rmp_encode::Both {
+            first: &self.title,
+            second: &self.edition,
+        };
+        se.serialize_fields("Page", &["title", "edition"], &parts)
+    }
+
+    #[tactic(auto, using(rmp_encode::proofs::Fields::structure_no_byte))]
+    fn as_u8(&self, _human: bool) -> Option<u8> {
+        None
+    }
+}
+
+impl<'de, R: ReadSlice<'de>> Deserialize<'de, R> for Page {
+    ghost reads = { λ human lends m v. (OfFields (codes "title" ∷ (codes "edition" ∷ []))
+        (Field (λ j. ⟦<String as Deserialize<'de, R>>⟧.reads human lends j v.title) (Absent ⟦<String as Deserialize<'de, R>>⟧.absent v.title)
+        (Field (λ j. ⟦<u16 as Deserialize<'de, R>>⟧.reads human lends j v.edition) (v.edition ≡ 1) NoField)) m) × (v.views ≡ 0) × (v.rank ≡ negsuc 0)
+        × (v.links.items ≡ []) × (v.seen ≡ None) };
+
+    ghost absent = { None };
+
+    ghost refuses = { RefusesFields (codes "title" ∷ (codes "edition" ∷ []))
+        (is_none ⟦<String as Deserialize<'de, R>>⟧.absent ∷ (is_none ⟦<Defaulted<u16> as Deserialize<'de, R>>⟧.absent ∷ []))
+        (part_of ⟦<String as Deserialize<'de, R>>⟧.reads ⟦<String as Deserialize<'de, R>>⟧.refuses
+        ∷ (part_of ⟦<Defaulted<u16> as Deserialize<'de, R>>⟧.reads ⟦<Defaulted<u16> as Deserialize<'de, R>>⟧.refuses ∷ [])) };
+
+    #[inline(always)]
+    fn deserialize<C: SerializerConfig>(
+        de: &mut Deserializer<R, C>,
+    ) -> Result<Page, rmp_decode::Error> {
+        let read: Result<(String, (Defaulted<u16>, ())), rmp_decode::Error> =
+            rmp_decode::read_fields_2(de, &["title", "edition"]);
+        match read {
+            Ok(parts) => {
+                let (title, (edition, ())) = parts;
+                let edition = edition.value.unwrap_or(1);
+                return Ok(Page {
+                    title,
+                    edition,
+                    views: 0,
+                    rank: -1,
+                    links: Vec::new(de.alloc()),
+                    seen: None,
+                });
+            }
+            Err(e) => return Err(e),
+        }
+    }
+
+    fn missing() -> Option<Page> {
+        None
+    }
+}
+
+impl<'de, R: ReadSlice<'de>> EndsInside<'de, R> for Page {
+    ghost ends_inside = { fields_inside _ _ _ (string_inside, (number_inside, tt)) };
+}
+
 impl Serialize for Once {
     ghost data_of = { λ v human. structure_of ((codes "times", ⟦<u8 as Serialize>⟧.data_of v.times human) ∷ []) };
 
@@ -802,5 +1151,19 @@ impl<
         let back = rmp_encode::One { first: self.ninth };
         front.write_fields(&names[..8], se)?;
         back.write_fields(&names[8..], se)
+    }
+}
+
+// The text that was read, or a copy of this one.
+fn text_or(
+    alloc: std::alloc::Global,
+    read: Option<String>,
+    text: &str,
+) -> Result<String, std::alloc::AllocError>
+    ensures { IfOk result (λ v. MatchOption read (string_bytes v ≡ text.now) (λ x. v ≡ x)) }
+{
+    match read {
+        Some(found) => Ok(found),
+        None => String::from_str(alloc, text),
     }
 }

@@ -1,12 +1,12 @@
 //! How the types of dirs.rt are written and read. Written by tools/derive.py.
 //!
-//! Sum of Dir: 8337329d.
+//! Sum of Dir: 5f2e021a.
 //! Sum of Menu: 3a00972c.
 ghost use Rattle.rmp_decode.specs.Law.{Lawful};
 ghost use Rattle.rmp_decode.specs.Maps.{ReadsEntries};
-ghost use Rattle.rmp_decode.specs.Read.{IsUnsigned, IsRaw, IsChar};
+ghost use Rattle.rmp_decode.specs.Read.{IsUnsigned, IsSigned, IsRaw, IsChar};
 ghost use Rattle.std.specs.Ordering.{nat_cmp};
-ghost use Rattle.std.specs.Prelude.{None, Some, string_bytes};
+ghost use Rattle.std.specs.Prelude.{None, Some, string_bytes, pos, negsuc};
 ghost use Rattle.std.specs.String.{string_cmp};
 ghost use Rattle.test_json.specs.DirLevels.{IsDir, dir_data, dir_fits};
 ghost use Rattle.test_json.specs.DirRounds.{SameDir, dir_some, dir_round, dir_only, dir_other};
@@ -20,12 +20,12 @@ use rmp_round_trip::{NeverNil, RoundTrip};
 use rmp_wire::config::SerializerConfig;
 use rmp_wire::{ReadSlice, Sink, Source};
 
-fn read_u32<R: Source, C: SerializerConfig>(
+fn read_i64<R: Source, C: SerializerConfig>(
     de: &mut Deserializer<R, C>,
-) -> Result<u32, rmp_decode::Error>
-    ensures law { Lawful R.Source (λ m v. IsUnsigned 4294967295 m v) de.old de.new result }
+) -> Result<i64, rmp_decode::Error>
+    ensures law { Lawful R.Source (λ m v. IsSigned (negsuc 9223372036854775807) (pos 9223372036854775807) m v) de.old de.new result }
 {
-    de.deserialize_u32()
+    de.deserialize_i64()
 }
 
 fn read_u8<R: Source, C: SerializerConfig>(
@@ -96,11 +96,11 @@ fn read_dir<R: Source, C: SerializerConfig, P: ReadPlaces<R> + ReadLeaves<R>>(
         Ok(fields) => fields,
         Err(e) => return Err(e),
     };
-    let mut slot0: Option<u32> = None;
+    let mut slot0: Option<i64> = None;
     let mut slot1: Option<BTreeMap<String, Dir>> = None;
     loop {
         match fields.next_field_by::<P>() {
-            Ok(Some(0)) => match fields.next_value_with(read_u32::<R, C>) {
+            Ok(Some(0)) => match fields.next_value_with(read_i64::<R, C>) {
                 Ok(value) => slot0 = Some(value),
                 Err(e) => return Err(e),
             },

@@ -4,12 +4,12 @@
 ghost use Rattle.rmp_decode.specs.Law.{Lawful};
 ghost use Rattle.rmp_decode.specs.Maps.{ReadsEntries};
 ghost use Rattle.rmp_decode.specs.Read.{IsSigned, IsRaw};
+ghost use Rattle.rmp_recursive.specs.Parts.{Row};
 ghost use Rattle.rmp_wire.specs.Msg.{truth};
 ghost use Rattle.std.specs.Prelude.{◌≡◌, None, Some, string_bytes, pos, negsuc};
 ghost use Rattle.std.specs.String.{string_cmp};
 ghost use Rattle.test_json.specs.JsonLevels.{IsJson, json_data, json_fits};
 ghost use Rattle.test_json.specs.JsonRounds.{SameJson, json_some, json_round, json_only, json_other};
-ghost use Rattle.test_json.specs.Recursion.{Row};
 
 use super::{BTreeMap, Json};
 use rmp_decode::{Deserialize, Deserializer, ReadContent, Slices};

@@ -1,33 +1,29 @@
 //! How the types of trees.rt are written and read. Written by tools/derive.py.
 //!
 //! Sum of Tree: 502ba3af.
-//! Sum of Expr: f55250eb.
-//! Sum of Term: 6b5d4a71.
-//! Sum of Link: 2aca41f4.
-//! Sum of Formula: a9058fa3.
+//! Sum of Term: 4dc375b4.
+//! Sum of Formula: 89cd7e0b.
+//! Sum of Rule: 7a9f7f8b.
 ghost use Rattle.rmp_decode.specs.Buffers.{IsBuffer};
 ghost use Rattle.rmp_decode.specs.Law.{Lawful};
 ghost use Rattle.rmp_decode.specs.Options.{IsOption};
 ghost use Rattle.rmp_decode.specs.Read.{IsUnsigned, IsSigned, IsRaw, IsChar};
 ghost use Rattle.rmp_decode.specs.Wide.{IsUnsigned128, IsSigned128};
+ghost use Rattle.rmp_recursive.specs.Parts.{Row, Boxed};
 ghost use Rattle.rmp_wire.specs.Msg.{nil, truth, float32, float64};
 ghost use Rattle.rmp_wire.specs.Types.{buffer_bytes};
 ghost use Rattle.std.specs.Prelude.{◌≡◌, None, Some, string_bytes, pos, negsuc};
-ghost use Rattle.test_recursive.specs.ExprLevels.{IsExpr, expr_data, expr_fits};
-ghost use Rattle.test_recursive.specs.ExprRounds.{SameExpr, expr_some, expr_round, expr_only, expr_other};
-ghost use Rattle.test_recursive.specs.FormulaLevels.{FormulaRowAdd, FormulaRowShift, FormulaRowCall, FormulaRowIf};
-ghost use Rattle.test_recursive.specs.FormulaLevels.{IsFormula, formula_data, formula_fits, FormulaRowCell};
+ghost use Rattle.test_recursive.specs.FormulaLevels.{IsFormula, formula_data, formula_fits, FormulaRowCell, FormulaRowShift, FormulaRowCall, FormulaRowIf};
 ghost use Rattle.test_recursive.specs.FormulaRounds.{SameFormula, formula_some, formula_round, formula_only, formula_other};
-ghost use Rattle.test_recursive.specs.LinkLevels.{IsLink, link_data, link_fits};
-ghost use Rattle.test_recursive.specs.LinkRounds.{SameLink, link_some, link_round, link_only, link_other};
-ghost use Rattle.test_recursive.specs.Recursion.{Row, Boxed};
+ghost use Rattle.test_recursive.specs.RuleLevels.{IsRule, rule_data, rule_fits, RuleNotRead, RuleCondRead, RuleRangeRead};
+ghost use Rattle.test_recursive.specs.RuleRounds.{SameRule, rule_some, rule_round, rule_only, rule_other};
 ghost use Rattle.test_recursive.specs.TermLevels.{IsTerm, term_data, term_fits};
 ghost use Rattle.test_recursive.specs.TermRounds.{SameTerm, term_some, term_round, term_only, term_other};
 ghost use Rattle.test_recursive.specs.TreeLevels.{IsTree, tree_data, tree_fits};
 ghost use Rattle.test_recursive.specs.TreeRounds.{SameTree, tree_some, tree_round, tree_only, tree_other};
 
-use super::{ByteBuf, Expr, F32Bits, F64Bits, Formula, Link, Term, Tree};
-use rmp_decode::{Deserialize, Deserializer, ReadContent, Slices};
+use super::{ByteBuf, F32Bits, F64Bits, Formula, Rule, Term, Tree};
+use rmp_decode::{Deserialize, Deserializer, ReadContent, ReadPlaces, Slices};
 use rmp_encode::{Serialize, Serializer};
 use rmp_round_trip::{NeverNil, RoundTrip};
 use rmp_wire::config::SerializerConfig;
@@ -73,20 +69,20 @@ fn read_i128<R: Source, C: SerializerConfig>(
     de.deserialize_i128()
 }
 
-fn read_u16<R: Source, C: SerializerConfig>(
-    de: &mut Deserializer<R, C>,
-) -> Result<u16, rmp_decode::Error>
-    ensures law { Lawful R.Source (λ m v. IsUnsigned 65535 m v) de.old de.new result }
-{
-    de.deserialize_u16()
-}
-
 fn read_i32<R: Source, C: SerializerConfig>(
     de: &mut Deserializer<R, C>,
 ) -> Result<i32, rmp_decode::Error>
     ensures law { Lawful R.Source (λ m v. IsSigned (negsuc 2147483647) (pos 2147483647) m v) de.old de.new result }
 {
     de.deserialize_i32()
+}
+
+fn read_u64<R: Source, C: SerializerConfig>(
+    de: &mut Deserializer<R, C>,
+) -> Result<u64, rmp_decode::Error>
+    ensures law { Lawful R.Source (λ m v. IsUnsigned 18446744073709551615 m v) de.old de.new result }
+{
+    de.deserialize_u64()
 }
 
 // How leaves are read. A function that calls itself may have no bound that names a lifetime, so it has this one, and is called with `Slices`.
@@ -130,6 +126,11 @@ trait ReadLeaves<R: Source> {
         de: &mut Deserializer<R, C>,
     ) -> Result<(u16, u16), rmp_decode::Error>
         ensures law { Lawful R.Source (λ m v. FormulaRowCell m v) de.old de.new result };
+
+    fn read_rule_range_fields<C: SerializerConfig>(
+        de: &mut Deserializer<R, C>,
+    ) -> Result<(i32, i32), rmp_decode::Error>
+        ensures law { Lawful R.Source (λ m v. RuleRangeRead m v) de.old de.new result };
 }
 
 impl<'de, R: ReadSlice<'de>> ReadLeaves<R> for Slices<'de> {
@@ -179,6 +180,21 @@ impl<'de, R: ReadSlice<'de>> ReadLeaves<R> for Slices<'de> {
         de: &mut Deserializer<R, C>,
     ) -> Result<(u16, u16), rmp_decode::Error> {
         Deserialize::deserialize(de)
+    }
+
+    fn read_rule_range_fields<C: SerializerConfig>(
+        de: &mut Deserializer<R, C>,
+    ) -> Result<(i32, i32), rmp_decode::Error> {
+        let read: Result<(i32, (i32, ())), rmp_decode::Error> = de.deserialize_fields(&[
+            "from", "to",
+        ]);
+        match read {
+            Ok(parts) => {
+                let (value0, (value1, ())) = parts;
+                Ok((value0, value1))
+            }
+            Err(e) => Err(e),
+        }
     }
 }
 
@@ -281,194 +297,43 @@ impl NeverNil for Tree {
     ghost never_nil = { λ s v. tree_other s v };
 }
 
-impl Serialize for Expr {
-    ghost data_of = { λ v human. expr_data v };
-
-    ghost is_value = { λ v. expr_fits v };
-
-    #[tactic(auto, unfolding(rmp_encode::specs::Data::lower))]
-    #[cycle(expr_writing)]
-    fn serialize<W: Sink, C: SerializerConfig>(
-        &self,
-        se: &mut Serializer<W, C>,
-    ) -> Result<(), rmp_encode::Error> {
-        match self {
-            Expr::Nothing => se.serialize_unit_variant("Expr", 0, "Nothing"),
-            Expr::Number(value) => se.serialize_newtype_variant("Expr", 1, "Number", value),
-            Expr::Name(value) => se.serialize_newtype_variant("Expr", 2, "Name", value),
-            Expr::Truth(value) => se.serialize_newtype_variant("Expr", 3, "Truth", value),
-            Expr::Not(value) => se.serialize_newtype_variant("Expr", 4, "Not", value),
-            Expr::Sum(value) => se.serialize_newtype_variant("Expr", 5, "Sum", value),
-            Expr::Product(value) => se.serialize_newtype_variant("Expr", 6, "Product", value),
-        }
-    }
-
-    #[tactic(auto, using(crate::proofs::ExprLevels::expr_no_byte))]
-    fn as_u8(&self, _human: bool) -> Option<u8> {
-        match self {
-            Expr::Nothing => None,
-            Expr::Number(_) => None,
-            Expr::Name(_) => None,
-            Expr::Truth(_) => None,
-            Expr::Not(_) => None,
-            Expr::Sum(_) => None,
-            Expr::Product(_) => None,
-        }
-    }
-}
-
-// Reads a `Expr`.
-#[cycle(expr_reading)]
-fn read_expr<R: Source, C: SerializerConfig, P: ReadContent<R> + ReadLeaves<R>>(
-    de: &mut Deserializer<R, C>,
-) -> Result<Expr, rmp_decode::Error>
-    ensures law { Lawful R.Source IsExpr de.old de.new result }
-{
-    match de.deserialize_enum_by::<P>(&[
-        "Nothing", "Number", "Name", "Truth", "Not", "Sum", "Product",
-    ]) {
-        Ok((0, variant)) => match variant.unit_variant() {
-            Ok(()) => Ok(Expr::Nothing),
-            Err(e) => Err(e),
-        },
-        Ok((1, variant)) => match variant.newtype_variant_with(read_i64::<R, C>) {
-            Ok(value) => Ok(Expr::Number(value)),
-            Err(e) => Err(e),
-        },
-        Ok((2, variant)) => match variant.newtype_variant_with(
-            |de: &mut Deserializer<R, C>| -> Result<String, rmp_decode::Error>
-                ensures law { Lawful R.Source (λ m v. IsRaw m (string_bytes v)) de.old de.new result }
-            { P::read_string::<C>(de) },
-        ) {
-            Ok(value) => Ok(Expr::Name(value)),
-            Err(e) => Err(e),
-        },
-        Ok((3, variant)) => match variant.newtype_variant_with(read_bool::<R, C>) {
-            Ok(value) => Ok(Expr::Truth(value)),
-            Err(e) => Err(e),
-        },
-        Ok((4, variant)) => match variant.newtype_variant_with(
-            |de: &mut Deserializer<R, C>| -> Result<Box<Expr>, rmp_decode::Error>
-                ensures law { Lawful R.Source (λ m v. IsExpr m v.value) de.old de.new result }
-            { read_expr_box::<R, C, P>(de) },
-        ) {
-            Ok(value) => Ok(Expr::Not(value)),
-            Err(e) => Err(e),
-        },
-        Ok((5, variant)) => match variant.newtype_variant_with(
-            |de: &mut Deserializer<R, C>| -> Result<Vec<Expr>, rmp_decode::Error>
-                ensures law { Lawful R.Source (λ m v. Row IsExpr m v.items) de.old de.new result }
-            { read_expr_list::<R, C, P>(de) },
-        ) {
-            Ok(value) => Ok(Expr::Sum(value)),
-            Err(e) => Err(e),
-        },
-        Ok((_, variant)) => match variant.newtype_variant_with(
-            |de: &mut Deserializer<R, C>| -> Result<Vec<Expr>, rmp_decode::Error>
-                ensures law { Lawful R.Source (λ m v. Row IsExpr m v.items) de.old de.new result }
-            { read_expr_list::<R, C, P>(de) },
-        ) {
-            Ok(value) => Ok(Expr::Product(value)),
-            Err(e) => Err(e),
-        },
-        Err(e) => Err(e),
-    }
-}
-
-// Reads a boxed one.
-#[cycle(expr_reading)]
-fn read_expr_box<R: Source, C: SerializerConfig, P: ReadContent<R> + ReadLeaves<R>>(
-    de: &mut Deserializer<R, C>,
-) -> Result<Box<Expr>, rmp_decode::Error>
-    ensures law { Lawful R.Source (λ m v. IsExpr m v.value) de.old de.new result }
-{
-    let value = match read_expr::<R, C, P>(de) {
-        Ok(value) => value,
-        Err(e) => return Err(e),
-    };
-    match Box::new(de.alloc(), value) {
-        Ok(boxed) => Ok(boxed),
-        Err(_) => Err(de.refuse(rmp_decode::Error::OutOfMemory)),
-    }
-}
-
-// Reads a list of them.
-#[cycle(expr_reading)]
-fn read_expr_list<R: Source, C: SerializerConfig, P: ReadContent<R> + ReadLeaves<R>>(
-    de: &mut Deserializer<R, C>,
-) -> Result<Vec<Expr>, rmp_decode::Error>
-    ensures law { Lawful R.Source (λ m v. Row IsExpr m v.items) de.old de.new result }
-{
-    let mut items = Vec::new(de.alloc());
-    let mut seq = de.deserialize_seq()?;
-    while let Some(item) = seq.next_element_with(
-        |de: &mut Deserializer<R, C>| -> Result<Expr, rmp_decode::Error>
-            ensures law { Lawful R.Source (λ m v. IsExpr m v) de.old de.new result }
-        { read_expr::<R, C, P>(de) },
-    )? {
-        items.push(item)?;
-    }
-    seq.end()?;
-    Ok(items)
-}
-
-impl<'de, R: ReadSlice<'de>> Deserialize<'de, R> for Expr {
-    ghost reads = { λ human lends. IsExpr };
-
-    ghost absent = { None };
-
-    fn deserialize<C: SerializerConfig>(
-        de: &mut Deserializer<R, C>,
-    ) -> Result<Expr, rmp_decode::Error> {
-        read_expr::<R, C, Slices<'de>>(de)
-    }
-
-    fn missing() -> Option<Expr> {
-        None
-    }
-}
-
-impl<'de, R: ReadSlice<'de>> RoundTrip<'de, R> for Expr {
-    ghost has_data = { λ human v. expr_some v };
-
-    ghost round = { λ lent s v fits. expr_round s v fits };
-
-    ghost same = { SameExpr };
-
-    ghost only = { λ s v fits. expr_only s v fits };
-}
-
-impl NeverNil for Expr {
-    ghost never_nil = { λ s v. expr_other s v };
-}
-
 impl Serialize for Term {
     ghost data_of = { λ v human. term_data v };
 
     ghost is_value = { λ v. term_fits v };
 
+    #[tactic(auto, unfolding(rmp_encode::specs::Data::lower))]
     #[cycle(term_writing)]
     fn serialize<W: Sink, C: SerializerConfig>(
         &self,
         se: &mut Serializer<W, C>,
     ) -> Result<(), rmp_encode::Error> {
         match self {
-            Term::Letter(value) => se.serialize_newtype_variant("Term", 0, "Letter", value),
-            Term::Half(value) => se.serialize_newtype_variant("Term", 1, "Half", value),
-            Term::Whole(value) => se.serialize_newtype_variant("Term", 2, "Whole", value),
-            Term::Bytes(value) => se.serialize_newtype_variant("Term", 3, "Bytes", value),
-            Term::Size(value) => se.serialize_newtype_variant("Term", 4, "Size", value),
-            Term::Offset(value) => se.serialize_newtype_variant("Term", 5, "Offset", value),
-            Term::Big(value) => se.serialize_newtype_variant("Term", 6, "Big", value),
-            Term::Wide(value) => se.serialize_newtype_variant("Term", 7, "Wide", value),
-            Term::Short(value) => se.serialize_newtype_variant("Term", 8, "Short", value),
-            Term::Quoted(value) => se.serialize_newtype_variant("Term", 9, "Quoted", value),
+            Term::Nothing => se.serialize_unit_variant("Term", 0, "Nothing"),
+            Term::Number(value) => se.serialize_newtype_variant("Term", 1, "Number", value),
+            Term::Name(value) => se.serialize_newtype_variant("Term", 2, "Name", value),
+            Term::Truth(value) => se.serialize_newtype_variant("Term", 3, "Truth", value),
+            Term::Letter(value) => se.serialize_newtype_variant("Term", 4, "Letter", value),
+            Term::Half(value) => se.serialize_newtype_variant("Term", 5, "Half", value),
+            Term::Whole(value) => se.serialize_newtype_variant("Term", 6, "Whole", value),
+            Term::Bytes(value) => se.serialize_newtype_variant("Term", 7, "Bytes", value),
+            Term::Size(value) => se.serialize_newtype_variant("Term", 8, "Size", value),
+            Term::Offset(value) => se.serialize_newtype_variant("Term", 9, "Offset", value),
+            Term::Big(value) => se.serialize_newtype_variant("Term", 10, "Big", value),
+            Term::Wide(value) => se.serialize_newtype_variant("Term", 11, "Wide", value),
+            Term::Not(value) => se.serialize_newtype_variant("Term", 12, "Not", value),
+            Term::Next(value) => se.serialize_newtype_variant("Term", 13, "Next", value),
+            Term::Sum(value) => se.serialize_newtype_variant("Term", 14, "Sum", value),
         }
     }
 
     #[tactic(auto, using(crate::proofs::TermLevels::term_no_byte))]
     fn as_u8(&self, _human: bool) -> Option<u8> {
         match self {
+            Term::Nothing => None,
+            Term::Number(_) => None,
+            Term::Name(_) => None,
+            Term::Truth(_) => None,
             Term::Letter(_) => None,
             Term::Half(_) => None,
             Term::Whole(_) => None,
@@ -477,8 +342,9 @@ impl Serialize for Term {
             Term::Offset(_) => None,
             Term::Big(_) => None,
             Term::Wide(_) => None,
-            Term::Short(_) => None,
-            Term::Quoted(_) => None,
+            Term::Not(_) => None,
+            Term::Next(_) => None,
+            Term::Sum(_) => None,
         }
     }
 }
@@ -491,9 +357,30 @@ fn read_term<R: Source, C: SerializerConfig, P: ReadContent<R> + ReadLeaves<R>>(
     ensures law { Lawful R.Source IsTerm de.old de.new result }
 {
     match de.deserialize_enum_by::<P>(&[
-        "Letter", "Half", "Whole", "Bytes", "Size", "Offset", "Big", "Wide", "Short", "Quoted",
+        "Nothing", "Number", "Name", "Truth", "Letter", "Half", "Whole", "Bytes", "Size", "Offset",
+        "Big", "Wide", "Not", "Next", "Sum",
     ]) {
-        Ok((0, variant)) => match variant.newtype_variant_with(
+        Ok((0, variant)) => match variant.unit_variant() {
+            Ok(()) => Ok(Term::Nothing),
+            Err(e) => Err(e),
+        },
+        Ok((1, variant)) => match variant.newtype_variant_with(read_i64::<R, C>) {
+            Ok(value) => Ok(Term::Number(value)),
+            Err(e) => Err(e),
+        },
+        Ok((2, variant)) => match variant.newtype_variant_with(
+            |de: &mut Deserializer<R, C>| -> Result<String, rmp_decode::Error>
+                ensures law { Lawful R.Source (λ m v. IsRaw m (string_bytes v)) de.old de.new result }
+            { P::read_string::<C>(de) },
+        ) {
+            Ok(value) => Ok(Term::Name(value)),
+            Err(e) => Err(e),
+        },
+        Ok((3, variant)) => match variant.newtype_variant_with(read_bool::<R, C>) {
+            Ok(value) => Ok(Term::Truth(value)),
+            Err(e) => Err(e),
+        },
+        Ok((4, variant)) => match variant.newtype_variant_with(
             |de: &mut Deserializer<R, C>| -> Result<char, rmp_decode::Error>
                 ensures law { Lawful R.Source (λ m v. IsChar m v) de.old de.new result }
             { P::read_char::<C>(de) },
@@ -501,7 +388,7 @@ fn read_term<R: Source, C: SerializerConfig, P: ReadContent<R> + ReadLeaves<R>>(
             Ok(value) => Ok(Term::Letter(value)),
             Err(e) => Err(e),
         },
-        Ok((1, variant)) => match variant.newtype_variant_with(
+        Ok((5, variant)) => match variant.newtype_variant_with(
             |de: &mut Deserializer<R, C>| -> Result<F32Bits, rmp_decode::Error>
                 ensures law { Lawful R.Source (λ m v. m ≡ float32 v.0) de.old de.new result }
             { P::read_f32bits::<C>(de) },
@@ -509,7 +396,7 @@ fn read_term<R: Source, C: SerializerConfig, P: ReadContent<R> + ReadLeaves<R>>(
             Ok(value) => Ok(Term::Half(value)),
             Err(e) => Err(e),
         },
-        Ok((2, variant)) => match variant.newtype_variant_with(
+        Ok((6, variant)) => match variant.newtype_variant_with(
             |de: &mut Deserializer<R, C>| -> Result<F64Bits, rmp_decode::Error>
                 ensures law { Lawful R.Source (λ m v. m ≡ float64 v.0) de.old de.new result }
             { P::read_f64bits::<C>(de) },
@@ -517,7 +404,7 @@ fn read_term<R: Source, C: SerializerConfig, P: ReadContent<R> + ReadLeaves<R>>(
             Ok(value) => Ok(Term::Whole(value)),
             Err(e) => Err(e),
         },
-        Ok((3, variant)) => match variant.newtype_variant_with(
+        Ok((7, variant)) => match variant.newtype_variant_with(
             |de: &mut Deserializer<R, C>| -> Result<ByteBuf, rmp_decode::Error>
                 ensures law { Lawful R.Source (λ m v. IsBuffer m (buffer_bytes v)) de.old de.new result }
             { P::read_bytebuf::<C>(de) },
@@ -525,7 +412,7 @@ fn read_term<R: Source, C: SerializerConfig, P: ReadContent<R> + ReadLeaves<R>>(
             Ok(value) => Ok(Term::Bytes(value)),
             Err(e) => Err(e),
         },
-        Ok((4, variant)) => match variant.newtype_variant_with(
+        Ok((8, variant)) => match variant.newtype_variant_with(
             |de: &mut Deserializer<R, C>| -> Result<usize, rmp_decode::Error>
                 ensures law { Lawful R.Source (λ m v. IsUnsigned 18446744073709551615 m v) de.old de.new result }
             { P::read_usize::<C>(de) },
@@ -533,7 +420,7 @@ fn read_term<R: Source, C: SerializerConfig, P: ReadContent<R> + ReadLeaves<R>>(
             Ok(value) => Ok(Term::Size(value)),
             Err(e) => Err(e),
         },
-        Ok((5, variant)) => match variant.newtype_variant_with(
+        Ok((9, variant)) => match variant.newtype_variant_with(
             |de: &mut Deserializer<R, C>| -> Result<isize, rmp_decode::Error>
                 ensures law { Lawful R.Source (λ m v. IsSigned (negsuc 9223372036854775807) (pos 9223372036854775807) m v) de.old de.new result }
             { P::read_isize::<C>(de) },
@@ -541,24 +428,36 @@ fn read_term<R: Source, C: SerializerConfig, P: ReadContent<R> + ReadLeaves<R>>(
             Ok(value) => Ok(Term::Offset(value)),
             Err(e) => Err(e),
         },
-        Ok((6, variant)) => match variant.newtype_variant_with(read_u128::<R, C>) {
+        Ok((10, variant)) => match variant.newtype_variant_with(read_u128::<R, C>) {
             Ok(value) => Ok(Term::Big(value)),
             Err(e) => Err(e),
         },
-        Ok((7, variant)) => match variant.newtype_variant_with(read_i128::<R, C>) {
+        Ok((11, variant)) => match variant.newtype_variant_with(read_i128::<R, C>) {
             Ok(value) => Ok(Term::Wide(value)),
             Err(e) => Err(e),
         },
-        Ok((8, variant)) => match variant.newtype_variant_with(read_u16::<R, C>) {
-            Ok(value) => Ok(Term::Short(value)),
-            Err(e) => Err(e),
-        },
-        Ok((_, variant)) => match variant.newtype_variant_with(
+        Ok((12, variant)) => match variant.newtype_variant_with(
             |de: &mut Deserializer<R, C>| -> Result<Box<Term>, rmp_decode::Error>
                 ensures law { Lawful R.Source (λ m v. IsTerm m v.value) de.old de.new result }
             { read_term_box::<R, C, P>(de) },
         ) {
-            Ok(value) => Ok(Term::Quoted(value)),
+            Ok(value) => Ok(Term::Not(value)),
+            Err(e) => Err(e),
+        },
+        Ok((13, variant)) => match variant.newtype_variant_with(
+            |de: &mut Deserializer<R, C>| -> Result<Option<Box<Term>>, rmp_decode::Error>
+                ensures law { Lawful R.Source (λ m v. IsOption (Boxed IsTerm) m v) de.old de.new result }
+            { read_term_option::<R, C, P>(de) },
+        ) {
+            Ok(value) => Ok(Term::Next(value)),
+            Err(e) => Err(e),
+        },
+        Ok((_, variant)) => match variant.newtype_variant_with(
+            |de: &mut Deserializer<R, C>| -> Result<Vec<Term>, rmp_decode::Error>
+                ensures law { Lawful R.Source (λ m v. Row IsTerm m v.items) de.old de.new result }
+            { read_term_list::<R, C, P>(de) },
+        ) {
+            Ok(value) => Ok(Term::Sum(value)),
             Err(e) => Err(e),
         },
         Err(e) => Err(e),
@@ -580,6 +479,40 @@ fn read_term_box<R: Source, C: SerializerConfig, P: ReadContent<R> + ReadLeaves<
         Ok(boxed) => Ok(boxed),
         Err(_) => Err(de.refuse(rmp_decode::Error::OutOfMemory)),
     }
+}
+
+// Reads nil as none, or else a boxed one.
+#[cycle(term_reading)]
+fn read_term_option<R: Source, C: SerializerConfig, P: ReadContent<R> + ReadLeaves<R>>(
+    de: &mut Deserializer<R, C>,
+) -> Result<Option<Box<Term>>, rmp_decode::Error>
+    ensures law { Lawful R.Source (λ m v. IsOption (Boxed IsTerm) m v) de.old de.new result }
+{
+    de.deserialize_option_with(
+        |de: &mut Deserializer<R, C>| -> Result<Box<Term>, rmp_decode::Error>
+            ensures law { Lawful R.Source (λ m v. IsTerm m v.value) de.old de.new result }
+        { read_term_box::<R, C, P>(de) },
+    )
+}
+
+// Reads a list of them.
+#[cycle(term_reading)]
+fn read_term_list<R: Source, C: SerializerConfig, P: ReadContent<R> + ReadLeaves<R>>(
+    de: &mut Deserializer<R, C>,
+) -> Result<Vec<Term>, rmp_decode::Error>
+    ensures law { Lawful R.Source (λ m v. Row IsTerm m v.items) de.old de.new result }
+{
+    let mut items = Vec::new(de.alloc());
+    let mut seq = de.deserialize_seq()?;
+    while let Some(item) = seq.next_element_with(
+        |de: &mut Deserializer<R, C>| -> Result<Term, rmp_decode::Error>
+            ensures law { Lawful R.Source (λ m v. IsTerm m v) de.old de.new result }
+        { read_term::<R, C, P>(de) },
+    )? {
+        items.push(item)?;
+    }
+    seq.end()?;
+    Ok(items)
 }
 
 impl<'de, R: ReadSlice<'de>> Deserialize<'de, R> for Term {
@@ -612,166 +545,6 @@ impl NeverNil for Term {
     ghost never_nil = { λ s v. term_other s v };
 }
 
-impl Serialize for Link {
-    ghost data_of = { λ v human. link_data v };
-
-    ghost is_value = { λ v. link_fits v };
-
-    #[cycle(link_writing)]
-    fn serialize<W: Sink, C: SerializerConfig>(
-        &self,
-        se: &mut Serializer<W, C>,
-    ) -> Result<(), rmp_encode::Error> {
-        match self {
-            Link::Last(value) => se.serialize_newtype_variant("Link", 0, "Last", value),
-            Link::Next(value) => se.serialize_newtype_variant("Link", 1, "Next", value),
-            Link::Named(value) => se.serialize_newtype_variant("Link", 2, "Named", value),
-            Link::Fork(value) => se.serialize_newtype_variant("Link", 3, "Fork", value),
-            Link::Other(value) => se.serialize_newtype_variant("Link", 4, "Other", value),
-        }
-    }
-
-    #[tactic(auto, using(crate::proofs::LinkLevels::link_no_byte))]
-    fn as_u8(&self, _human: bool) -> Option<u8> {
-        match self {
-            Link::Last(_) => None,
-            Link::Next(_) => None,
-            Link::Named(_) => None,
-            Link::Fork(_) => None,
-            Link::Other(_) => None,
-        }
-    }
-}
-
-// Reads a `Link`.
-#[cycle(link_reading)]
-fn read_link<R: Source, C: SerializerConfig, P: ReadContent<R> + ReadLeaves<R>>(
-    de: &mut Deserializer<R, C>,
-) -> Result<Link, rmp_decode::Error>
-    ensures law { Lawful R.Source IsLink de.old de.new result }
-{
-    match de.deserialize_enum_by::<P>(&["Last", "Next", "Named", "Fork", "Other"]) {
-        Ok((0, variant)) => match variant.newtype_variant_with(read_u16::<R, C>) {
-            Ok(value) => Ok(Link::Last(value)),
-            Err(e) => Err(e),
-        },
-        Ok((1, variant)) => match variant.newtype_variant_with(
-            |de: &mut Deserializer<R, C>| -> Result<Option<Box<Link>>, rmp_decode::Error>
-                ensures law { Lawful R.Source (λ m v. IsOption (Boxed IsLink) m v) de.old de.new result }
-            { read_link_option::<R, C, P>(de) },
-        ) {
-            Ok(value) => Ok(Link::Next(value)),
-            Err(e) => Err(e),
-        },
-        Ok((2, variant)) => match variant.newtype_variant_with(
-            |de: &mut Deserializer<R, C>| -> Result<String, rmp_decode::Error>
-                ensures law { Lawful R.Source (λ m v. IsRaw m (string_bytes v)) de.old de.new result }
-            { P::read_string::<C>(de) },
-        ) {
-            Ok(value) => Ok(Link::Named(value)),
-            Err(e) => Err(e),
-        },
-        Ok((3, variant)) => match variant.newtype_variant_with(
-            |de: &mut Deserializer<R, C>| -> Result<Vec<Link>, rmp_decode::Error>
-                ensures law { Lawful R.Source (λ m v. Row IsLink m v.items) de.old de.new result }
-            { read_link_list::<R, C, P>(de) },
-        ) {
-            Ok(value) => Ok(Link::Fork(value)),
-            Err(e) => Err(e),
-        },
-        Ok((_, variant)) => match variant.newtype_variant_with(
-            |de: &mut Deserializer<R, C>| -> Result<Option<Box<Link>>, rmp_decode::Error>
-                ensures law { Lawful R.Source (λ m v. IsOption (Boxed IsLink) m v) de.old de.new result }
-            { read_link_option::<R, C, P>(de) },
-        ) {
-            Ok(value) => Ok(Link::Other(value)),
-            Err(e) => Err(e),
-        },
-        Err(e) => Err(e),
-    }
-}
-
-// Reads nil as none, or else a boxed one.
-#[cycle(link_reading)]
-fn read_link_option<R: Source, C: SerializerConfig, P: ReadContent<R> + ReadLeaves<R>>(
-    de: &mut Deserializer<R, C>,
-) -> Result<Option<Box<Link>>, rmp_decode::Error>
-    ensures law { Lawful R.Source (λ m v. IsOption (Boxed IsLink) m v) de.old de.new result }
-{
-    de.deserialize_option_with(
-        |de: &mut Deserializer<R, C>| -> Result<Box<Link>, rmp_decode::Error>
-            ensures law { Lawful R.Source (λ m v. IsLink m v.value) de.old de.new result }
-        { read_link_box::<R, C, P>(de) },
-    )
-}
-
-// Reads a list of them.
-#[cycle(link_reading)]
-fn read_link_list<R: Source, C: SerializerConfig, P: ReadContent<R> + ReadLeaves<R>>(
-    de: &mut Deserializer<R, C>,
-) -> Result<Vec<Link>, rmp_decode::Error>
-    ensures law { Lawful R.Source (λ m v. Row IsLink m v.items) de.old de.new result }
-{
-    let mut items = Vec::new(de.alloc());
-    let mut seq = de.deserialize_seq()?;
-    while let Some(item) = seq.next_element_with(
-        |de: &mut Deserializer<R, C>| -> Result<Link, rmp_decode::Error>
-            ensures law { Lawful R.Source (λ m v. IsLink m v) de.old de.new result }
-        { read_link::<R, C, P>(de) },
-    )? {
-        items.push(item)?;
-    }
-    seq.end()?;
-    Ok(items)
-}
-
-// Reads a boxed one.
-#[cycle(link_reading)]
-fn read_link_box<R: Source, C: SerializerConfig, P: ReadContent<R> + ReadLeaves<R>>(
-    de: &mut Deserializer<R, C>,
-) -> Result<Box<Link>, rmp_decode::Error>
-    ensures law { Lawful R.Source (λ m v. IsLink m v.value) de.old de.new result }
-{
-    let value = match read_link::<R, C, P>(de) {
-        Ok(value) => value,
-        Err(e) => return Err(e),
-    };
-    match Box::new(de.alloc(), value) {
-        Ok(boxed) => Ok(boxed),
-        Err(_) => Err(de.refuse(rmp_decode::Error::OutOfMemory)),
-    }
-}
-
-impl<'de, R: ReadSlice<'de>> Deserialize<'de, R> for Link {
-    ghost reads = { λ human lends. IsLink };
-
-    ghost absent = { None };
-
-    fn deserialize<C: SerializerConfig>(
-        de: &mut Deserializer<R, C>,
-    ) -> Result<Link, rmp_decode::Error> {
-        read_link::<R, C, Slices<'de>>(de)
-    }
-
-    fn missing() -> Option<Link> {
-        None
-    }
-}
-
-impl<'de, R: ReadSlice<'de>> RoundTrip<'de, R> for Link {
-    ghost has_data = { λ human v. link_some v };
-
-    ghost round = { λ lent s v fits. link_round s v fits };
-
-    ghost same = { SameLink };
-
-    ghost only = { λ s v fits. link_only s v fits };
-}
-
-impl NeverNil for Link {
-    ghost never_nil = { λ s v. link_other s v };
-}
-
 impl Serialize for Formula {
     ghost data_of = { λ v human. formula_data v };
 
@@ -783,33 +556,26 @@ impl Serialize for Formula {
         se: &mut Serializer<W, C>,
     ) -> Result<(), rmp_encode::Error> {
         match self {
-            Formula::Number(value) => se.serialize_newtype_variant("Formula", 0, "Number", value),
             Formula::Cell(first, second) => {
-                let mut parts = se.serialize_tuple_variant("Formula", 1, "Cell", 2)?;
-                parts.serialize_element(first)?;
-                parts.serialize_element(second)?;
-                parts.end()
-            }
-            Formula::Add(first, second) => {
-                let mut parts = se.serialize_tuple_variant("Formula", 2, "Add", 2)?;
+                let mut parts = se.serialize_tuple_variant("Formula", 0, "Cell", 2)?;
                 parts.serialize_element(first)?;
                 parts.serialize_element(second)?;
                 parts.end()
             }
             Formula::Shift(first, second) => {
-                let mut parts = se.serialize_tuple_variant("Formula", 3, "Shift", 2)?;
+                let mut parts = se.serialize_tuple_variant("Formula", 1, "Shift", 2)?;
                 parts.serialize_element(first)?;
                 parts.serialize_element(second)?;
                 parts.end()
             }
             Formula::Call(first, second) => {
-                let mut parts = se.serialize_tuple_variant("Formula", 4, "Call", 2)?;
+                let mut parts = se.serialize_tuple_variant("Formula", 2, "Call", 2)?;
                 parts.serialize_element(first)?;
                 parts.serialize_element(second)?;
                 parts.end()
             }
             Formula::If(first, second, third) => {
-                let mut parts = se.serialize_tuple_variant("Formula", 5, "If", 3)?;
+                let mut parts = se.serialize_tuple_variant("Formula", 3, "If", 3)?;
                 parts.serialize_element(first)?;
                 parts.serialize_element(second)?;
                 parts.serialize_element(third)?;
@@ -821,9 +587,7 @@ impl Serialize for Formula {
     #[tactic(auto, using(crate::proofs::FormulaLevels::formula_no_byte))]
     fn as_u8(&self, _human: bool) -> Option<u8> {
         match self {
-            Formula::Number(_) => None,
             Formula::Cell(_, _) => None,
-            Formula::Add(_, _) => None,
             Formula::Shift(_, _) => None,
             Formula::Call(_, _) => None,
             Formula::If(_, _, _) => None,
@@ -838,12 +602,8 @@ fn read_formula<R: Source, C: SerializerConfig, P: ReadContent<R> + ReadLeaves<R
 ) -> Result<Formula, rmp_decode::Error>
     ensures law { Lawful R.Source IsFormula de.old de.new result }
 {
-    match de.deserialize_enum_by::<P>(&["Number", "Cell", "Add", "Shift", "Call", "If"]) {
-        Ok((0, variant)) => match variant.newtype_variant_with(read_i64::<R, C>) {
-            Ok(value) => Ok(Formula::Number(value)),
-            Err(e) => Err(e),
-        },
-        Ok((1, variant)) => match variant.newtype_variant_with(
+    match de.deserialize_enum_by::<P>(&["Cell", "Shift", "Call", "If"]) {
+        Ok((0, variant)) => match variant.newtype_variant_with(
             |de: &mut Deserializer<R, C>| -> Result<(u16, u16), rmp_decode::Error>
                 ensures law { Lawful R.Source (λ m v. FormulaRowCell m v) de.old de.new result }
             { P::read_formula_cell_values::<C>(de) },
@@ -851,15 +611,7 @@ fn read_formula<R: Source, C: SerializerConfig, P: ReadContent<R> + ReadLeaves<R
             Ok((first, second)) => Ok(Formula::Cell(first, second)),
             Err(e) => Err(e),
         },
-        Ok((2, variant)) => match variant.newtype_variant_with(
-            |de: &mut Deserializer<R, C>| -> Result<(Box<Formula>, Box<Formula>), rmp_decode::Error>
-                ensures law { Lawful R.Source (λ m v. FormulaRowAdd IsFormula m v) de.old de.new result }
-            { read_formula_add_values::<R, C, P>(de) },
-        ) {
-            Ok((first, second)) => Ok(Formula::Add(first, second)),
-            Err(e) => Err(e),
-        },
-        Ok((3, variant)) => match variant.newtype_variant_with(
+        Ok((1, variant)) => match variant.newtype_variant_with(
             |de: &mut Deserializer<R, C>| -> Result<(i32, Box<Formula>), rmp_decode::Error>
                 ensures law { Lawful R.Source (λ m v. FormulaRowShift IsFormula m v) de.old de.new result }
             { read_formula_shift_values::<R, C, P>(de) },
@@ -867,7 +619,7 @@ fn read_formula<R: Source, C: SerializerConfig, P: ReadContent<R> + ReadLeaves<R
             Ok((first, second)) => Ok(Formula::Shift(first, second)),
             Err(e) => Err(e),
         },
-        Ok((4, variant)) => match variant.newtype_variant_with(
+        Ok((2, variant)) => match variant.newtype_variant_with(
             |de: &mut Deserializer<R, C>| -> Result<(String, Vec<Formula>), rmp_decode::Error>
                 ensures law { Lawful R.Source (λ m v. FormulaRowCall IsFormula m v) de.old de.new result }
             { read_formula_call_values::<R, C, P>(de) },
@@ -892,20 +644,16 @@ fn read_formula<R: Source, C: SerializerConfig, P: ReadContent<R> + ReadLeaves<R
 
 // Reads the values of a variant, one after another.
 #[cycle(formula_reading)]
-fn read_formula_add_values<R: Source, C: SerializerConfig, P: ReadContent<R> + ReadLeaves<R>>(
+fn read_formula_shift_values<R: Source, C: SerializerConfig, P: ReadContent<R> + ReadLeaves<R>>(
     de: &mut Deserializer<R, C>,
-) -> Result<(Box<Formula>, Box<Formula>), rmp_decode::Error>
-    ensures law { Lawful R.Source (λ m v. FormulaRowAdd IsFormula m v) de.old de.new result }
+) -> Result<(i32, Box<Formula>), rmp_decode::Error>
+    ensures law { Lawful R.Source (λ m v. FormulaRowShift IsFormula m v) de.old de.new result }
 {
     let mut seq = match de.deserialize_seq() {
         Ok(seq) => seq,
         Err(e) => return Err(e),
     };
-    let first = match seq.next_element_with(
-        |de: &mut Deserializer<R, C>| -> Result<Box<Formula>, rmp_decode::Error>
-            ensures law { Lawful R.Source (λ m v. IsFormula m v.value) de.old de.new result }
-        { read_formula_box::<R, C, P>(de) },
-    ) {
+    let first = match seq.next_element_with(read_i32::<R, C>) {
         Ok(Some(value)) => value,
         Ok(None) => return Err(rmp_decode::Error::Syntax(rmp_decode::Text::InvalidLength)),
         Err(e) => return Err(e),
@@ -939,37 +687,6 @@ fn read_formula_box<R: Source, C: SerializerConfig, P: ReadContent<R> + ReadLeav
     match Box::new(de.alloc(), value) {
         Ok(boxed) => Ok(boxed),
         Err(_) => Err(de.refuse(rmp_decode::Error::OutOfMemory)),
-    }
-}
-
-// Reads the values of a variant, one after another.
-#[cycle(formula_reading)]
-fn read_formula_shift_values<R: Source, C: SerializerConfig, P: ReadContent<R> + ReadLeaves<R>>(
-    de: &mut Deserializer<R, C>,
-) -> Result<(i32, Box<Formula>), rmp_decode::Error>
-    ensures law { Lawful R.Source (λ m v. FormulaRowShift IsFormula m v) de.old de.new result }
-{
-    let mut seq = match de.deserialize_seq() {
-        Ok(seq) => seq,
-        Err(e) => return Err(e),
-    };
-    let first = match seq.next_element_with(read_i32::<R, C>) {
-        Ok(Some(value)) => value,
-        Ok(None) => return Err(rmp_decode::Error::Syntax(rmp_decode::Text::InvalidLength)),
-        Err(e) => return Err(e),
-    };
-    let second = match seq.next_element_with(
-        |de: &mut Deserializer<R, C>| -> Result<Box<Formula>, rmp_decode::Error>
-            ensures law { Lawful R.Source (λ m v. IsFormula m v.value) de.old de.new result }
-        { read_formula_box::<R, C, P>(de) },
-    ) {
-        Ok(Some(value)) => value,
-        Ok(None) => return Err(rmp_decode::Error::Syntax(rmp_decode::Text::InvalidLength)),
-        Err(e) => return Err(e),
-    };
-    match seq.end() {
-        Ok(()) => Ok((first, second)),
-        Err(e) => Err(e),
     }
 }
 
@@ -1114,4 +831,255 @@ impl<'de, R: ReadSlice<'de>> RoundTrip<'de, R> for Formula {
 
 impl NeverNil for Formula {
     ghost never_nil = { λ s v. formula_other s v };
+}
+
+impl Serialize for Rule {
+    ghost data_of = { λ v human. rule_data v };
+
+    ghost is_value = { λ v. rule_fits v };
+
+    #[tactic(auto, unfolding(rmp_encode::specs::Data::lower))]
+    #[cycle(rule_writing)]
+    fn serialize<W: Sink, C: SerializerConfig>(
+        &self,
+        se: &mut Serializer<W, C>,
+    ) -> Result<(), rmp_encode::Error> {
+        match self {
+            Rule::Always => se.serialize_unit_variant("Rule", 0, "Always"),
+            Rule::Size(value) => se.serialize_newtype_variant("Rule", 1, "Size", value),
+            Rule::Not { rule } => {
+                let mut fields = se.serialize_struct_variant("Rule", 2, "Not", 1)?;
+                fields.serialize_field("rule", rule)?;
+                fields.end()
+            }
+            Rule::Cond {
+                first_test,
+                otherwise,
+            } => {
+                let mut fields = se.serialize_struct_variant("Rule", 3, "Cond", 2)?;
+                fields.serialize_field("firstTest", first_test)?;
+                fields.serialize_field("otherwise", otherwise)?;
+                fields.end()
+            }
+            Rule::Range { from, to } => {
+                let mut fields = se.serialize_struct_variant("Rule", 4, "Range", 2)?;
+                fields.serialize_field("from", from)?;
+                fields.serialize_field("to", to)?;
+                fields.end()
+            }
+        }
+    }
+
+    #[tactic(auto, using(crate::proofs::RuleLevels::rule_no_byte))]
+    fn as_u8(&self, _human: bool) -> Option<u8> {
+        match self {
+            Rule::Always => None,
+            Rule::Size(_) => None,
+            Rule::Not { .. } => None,
+            Rule::Cond { .. } => None,
+            Rule::Range { .. } => None,
+        }
+    }
+}
+
+// Reads a `Rule`.
+#[cycle(rule_reading)]
+fn read_rule<R: Source, C: SerializerConfig, P: ReadContent<R> + ReadPlaces<R> + ReadLeaves<R>>(
+    de: &mut Deserializer<R, C>,
+) -> Result<Rule, rmp_decode::Error>
+    ensures law { Lawful R.Source IsRule de.old de.new result }
+{
+    match de.deserialize_enum_by::<P>(&["Always", "Size", "Not", "Cond", "Range"]) {
+        Ok((0, variant)) => match variant.unit_variant() {
+            Ok(()) => Ok(Rule::Always),
+            Err(e) => Err(e),
+        },
+        Ok((1, variant)) => match variant.newtype_variant_with(read_u64::<R, C>) {
+            Ok(value) => Ok(Rule::Size(value)),
+            Err(e) => Err(e),
+        },
+        Ok((2, variant)) => match variant.newtype_variant_with(
+            |de: &mut Deserializer<R, C>| -> Result<Box<Rule>, rmp_decode::Error>
+                ensures law { Lawful R.Source (λ m v. RuleNotRead IsRule m v) de.old de.new result }
+            { read_rule_not_fields::<R, C, P>(de) },
+        ) {
+            Ok(rule) => Ok(Rule::Not { rule }),
+            Err(e) => Err(e),
+        },
+        Ok((3, variant)) => match variant.newtype_variant_with(
+            |de: &mut Deserializer<R, C>| -> Result<
+                (Box<Rule>, Option<Box<Rule>>),
+                rmp_decode::Error,
+            >
+                ensures law { Lawful R.Source (λ m v. RuleCondRead IsRule m v) de.old de.new result }
+            { read_rule_cond_fields::<R, C, P>(de) },
+        ) {
+            Ok((first_test, otherwise)) => Ok(Rule::Cond {
+                first_test,
+                otherwise,
+            }),
+            Err(e) => Err(e),
+        },
+        Ok((_, variant)) => match variant.newtype_variant_with(
+            |de: &mut Deserializer<R, C>| -> Result<(i32, i32), rmp_decode::Error>
+                ensures law { Lawful R.Source (λ m v. RuleRangeRead m v) de.old de.new result }
+            { P::read_rule_range_fields::<C>(de) },
+        ) {
+            Ok((from, to)) => Ok(Rule::Range { from, to }),
+            Err(e) => Err(e),
+        },
+        Err(e) => Err(e),
+    }
+}
+
+// Reads the fields of `Not`.
+#[cycle(rule_reading)]
+fn read_rule_not_fields<
+    R: Source,
+    C: SerializerConfig,
+    P: ReadContent<R> + ReadPlaces<R> + ReadLeaves<R>,
+>(de: &mut Deserializer<R, C>) -> Result<Box<Rule>, rmp_decode::Error>
+    ensures law { Lawful R.Source (λ m v. RuleNotRead IsRule m v) de.old de.new result }
+{
+    let mut fields = match de.deserialize_struct("Not", &["rule"]) {
+        Ok(fields) => fields,
+        Err(e) => return Err(e),
+    };
+    let mut slot0: Option<Box<Rule>> = None;
+    loop {
+        match fields.next_field_by::<P>() {
+            Ok(Some(_)) => match fields.next_value_with(
+                |de: &mut Deserializer<R, C>| -> Result<Box<Rule>, rmp_decode::Error>
+                    ensures law { Lawful R.Source (λ m v. IsRule m v.value) de.old de.new result }
+                { read_rule_box::<R, C, P>(de) },
+            ) {
+                Ok(value) => slot0 = Some(value),
+                Err(e) => return Err(e),
+            },
+            Ok(None) => break,
+            Err(e) => return Err(e),
+        }
+    }
+    let value0 = match fields.given_or("rule", slot0, None) {
+        Ok(value) => value,
+        Err(e) => return Err(e),
+    };
+    match fields.end() {
+        Ok(()) => Ok(value0),
+        Err(e) => Err(e),
+    }
+}
+
+// Reads a boxed one.
+#[cycle(rule_reading)]
+fn read_rule_box<R: Source, C: SerializerConfig, P: ReadContent<R> + ReadPlaces<R> + ReadLeaves<R>>(
+    de: &mut Deserializer<R, C>,
+) -> Result<Box<Rule>, rmp_decode::Error>
+    ensures law { Lawful R.Source (λ m v. IsRule m v.value) de.old de.new result }
+{
+    let value = match read_rule::<R, C, P>(de) {
+        Ok(value) => value,
+        Err(e) => return Err(e),
+    };
+    match Box::new(de.alloc(), value) {
+        Ok(boxed) => Ok(boxed),
+        Err(_) => Err(de.refuse(rmp_decode::Error::OutOfMemory)),
+    }
+}
+
+// Reads the fields of `Cond`.
+#[cycle(rule_reading)]
+fn read_rule_cond_fields<
+    R: Source,
+    C: SerializerConfig,
+    P: ReadContent<R> + ReadPlaces<R> + ReadLeaves<R>,
+>(de: &mut Deserializer<R, C>) -> Result<(Box<Rule>, Option<Box<Rule>>), rmp_decode::Error>
+    ensures law { Lawful R.Source (λ m v. RuleCondRead IsRule m v) de.old de.new result }
+{
+    let mut fields = match de.deserialize_struct("Cond", &["firstTest", "otherwise"]) {
+        Ok(fields) => fields,
+        Err(e) => return Err(e),
+    };
+    let mut slot0: Option<Box<Rule>> = None;
+    let mut slot1: Option<Option<Box<Rule>>> = None;
+    loop {
+        match fields.next_field_by::<P>() {
+            Ok(Some(0)) => match fields.next_value_with(
+                |de: &mut Deserializer<R, C>| -> Result<Box<Rule>, rmp_decode::Error>
+                    ensures law { Lawful R.Source (λ m v. IsRule m v.value) de.old de.new result }
+                { read_rule_box::<R, C, P>(de) },
+            ) {
+                Ok(value) => slot0 = Some(value),
+                Err(e) => return Err(e),
+            },
+            Ok(Some(_)) => match fields.next_value_with(
+                |de: &mut Deserializer<R, C>| -> Result<Option<Box<Rule>>, rmp_decode::Error>
+                    ensures law { Lawful R.Source (λ m v. IsOption (Boxed IsRule) m v) de.old de.new result }
+                { read_rule_option::<R, C, P>(de) },
+            ) {
+                Ok(value) => slot1 = Some(value),
+                Err(e) => return Err(e),
+            },
+            Ok(None) => break,
+            Err(e) => return Err(e),
+        }
+    }
+    let value0 = match fields.given_or("firstTest", slot0, None) {
+        Ok(value) => value,
+        Err(e) => return Err(e),
+    };
+    let value1 = match fields.given_or("otherwise", slot1, Some(None)) {
+        Ok(value) => value,
+        Err(e) => return Err(e),
+    };
+    match fields.end() {
+        Ok(()) => Ok((value0, value1)),
+        Err(e) => Err(e),
+    }
+}
+
+// Reads nil as none, or else a boxed one.
+#[cycle(rule_reading)]
+fn read_rule_option<
+    R: Source,
+    C: SerializerConfig,
+    P: ReadContent<R> + ReadPlaces<R> + ReadLeaves<R>,
+>(de: &mut Deserializer<R, C>) -> Result<Option<Box<Rule>>, rmp_decode::Error>
+    ensures law { Lawful R.Source (λ m v. IsOption (Boxed IsRule) m v) de.old de.new result }
+{
+    de.deserialize_option_with(
+        |de: &mut Deserializer<R, C>| -> Result<Box<Rule>, rmp_decode::Error>
+            ensures law { Lawful R.Source (λ m v. IsRule m v.value) de.old de.new result }
+        { read_rule_box::<R, C, P>(de) },
+    )
+}
+
+impl<'de, R: ReadSlice<'de>> Deserialize<'de, R> for Rule {
+    ghost reads = { λ human lends. IsRule };
+
+    ghost absent = { None };
+
+    fn deserialize<C: SerializerConfig>(
+        de: &mut Deserializer<R, C>,
+    ) -> Result<Rule, rmp_decode::Error> {
+        read_rule::<R, C, Slices<'de>>(de)
+    }
+
+    fn missing() -> Option<Rule> {
+        None
+    }
+}
+
+impl<'de, R: ReadSlice<'de>> RoundTrip<'de, R> for Rule {
+    ghost has_data = { λ human v. rule_some v };
+
+    ghost round = { λ lent s v fits. rule_round s v fits };
+
+    ghost same = { SameRule };
+
+    ghost only = { λ s v fits. rule_only s v fits };
+}
+
+impl NeverNil for Rule {
+    ghost never_nil = { λ s v. rule_other s v };
 }

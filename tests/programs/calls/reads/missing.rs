@@ -5,8 +5,7 @@ use rmp_wire::ReadRefReader;
 use std::process::Abort;
 use std::test::Fail;
 use test_derived::{Mixed, Server};
-use test_named::Rule;
-use test_posts::Post;
+use test_recursive::{Post, Rule};
 use test_types::Pup;
 use test_types::structs::Dog;
 use test_wide::Manifest;
@@ -132,8 +131,8 @@ fn of_derived_types(rt: HostRuntime) {
     // by the name in the message
     lacks(
         &rt,
-        from_slice::<Rule>(rt.alloc(), b"\x81\xa7Compare\x81\xa2op\xa0"),
-        "leftSide",
+        from_slice::<Rule>(rt.alloc(), b"\x81\xa4Cond\x81\xa9otherwise\xc0"),
+        "firstTest",
     );
 }
 

@@ -36,7 +36,7 @@ const KINDS: [Kind; 10] = [
 fn answers(part: ValueRef) -> [bool; 10] {
     [
         false,
-        part.as_truth().is_some(),
+        part.as_bool().is_some(),
         part.as_whole().is_some(),
         part.as_f32_bits().is_some(),
         part.as_f64_bits().is_some(),
@@ -70,7 +70,7 @@ fn each_call_answers_for_its_own_kind(rt: HostRuntime) -> Result<(), Error> {
 #[test]
 fn each_leaf_gives_its_content(rt: HostRuntime) -> Result<(), Error> {
     let all = from_slice::<Value>(rt.alloc(), &ALL_KINDS)?;
-    assert_eq!(rt; item(&all, 1).as_truth(), Some(true));
+    assert_eq!(rt; item(&all, 1).as_bool(), Some(true));
     assert_eq!(rt; item(&all, 2).as_whole(), Some(-33));
     assert_eq!(rt; item(&all, 3).as_f32_bits(), Some(0x3f80_0000));
     assert_eq!(rt; item(&all, 4).as_f64_bits(), Some(0x3ff0_0000_0000_0000));
@@ -92,7 +92,7 @@ fn lists_and_maps_give_their_parts(rt: HostRuntime) -> Result<(), Error> {
     assert!(rt; list.item(2).is_none());
     assert_eq!(rt; map.len(), 1);
     assert_eq!(rt; map.pair(0).and_then(|pair| pair.0.as_whole()), Some(-1));
-    assert_eq!(rt; map.pair(0).and_then(|pair| pair.1.as_truth()), Some(false));
+    assert_eq!(rt; map.pair(0).and_then(|pair| pair.1.as_bool()), Some(false));
     assert!(rt; map.pair(1).is_none());
     assert_eq!(rt; item(&all, 9).len(), 0);
     Ok(())
@@ -104,7 +104,7 @@ fn parts_come_one_after_another(rt: HostRuntime) -> Result<(), Error> {
     assert_eq!(rt; all.root().parts().count(), KINDS.len());
     let mut parts = item(&all, 8).parts();
     assert_eq!(rt; parts.next().and_then(|part| part.as_whole()), Some(-1));
-    assert_eq!(rt; parts.next().and_then(|part| part.as_truth()), Some(false));
+    assert_eq!(rt; parts.next().and_then(|part| part.as_bool()), Some(false));
     assert!(rt; parts.next().is_none());
     assert!(rt; item(&all, 9).parts().next().is_none());
     Ok(())
@@ -116,7 +116,7 @@ fn pairs_come_one_after_another(rt: HostRuntime) -> Result<(), Error> {
     let mut pairs = item(&all, 8).pairs();
     let pair = pairs.next();
     assert_eq!(rt; pair.and_then(|pair| pair.0.as_whole()), Some(-1));
-    assert_eq!(rt; pair.and_then(|pair| pair.1.as_truth()), Some(false));
+    assert_eq!(rt; pair.and_then(|pair| pair.1.as_bool()), Some(false));
     assert!(rt; pairs.next().is_none());
     assert_eq!(rt; all.root().pairs().count(), 0);
     assert_eq!(rt; item(&all, 9).pairs().count(), 0);

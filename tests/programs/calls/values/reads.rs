@@ -35,7 +35,7 @@ fn show(out: &mut String, part: ValueRef<'_>) -> Result<(), AllocError> {
 
 // Writes a part that has no parts.
 fn show_leaf(out: &mut String, leaf: ValueRef<'_>) -> Result<(), AllocError> {
-    if let Some(truth) = leaf.as_truth() {
+    if let Some(truth) = leaf.as_bool() {
         write!(out, "{truth}")
     } else if let Some(number) = leaf.as_whole() {
         write!(out, "{number}")

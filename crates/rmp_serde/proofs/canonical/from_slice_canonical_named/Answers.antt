@@ -1,8 +1,8 @@
-use Rattle.std.proofs.Common.{false, true, refl}
+use Rattle.std.proofs.Common.{false, true, refl, inr}
 use Rattle.std.proofs.lemmas.Result.{IfErr-weaker}
 use Rattle.rmp_encode.specs.Calls.{named_settings, IsSpelled, ToVecFails}
 use Rattle.rmp_encode.specs.Trees.{tree_of}
-use Rattle.rmp_serde.proofs.CanonicalReads.{either, read_of, read_same, written_else}
+use Rattle.rmp_serde.proofs.CanonicalReads.{either, read_of, read_same, readable, written_else}
 use Rattle.rmp_serde.proofs.canonical.from_slice_canonical_named.Goals as goal
 
 pub returns-in-Err-clause-err : goal.returns-in-Err-clause-err
@@ -21,3 +21,11 @@ returns-clause-err g c =
     v w 1024 (c.values_come_back.ensures.only named_settings v is) spelled c.in-Ok.ensures.ok)) spelled
     (either (λ b. IsSpelled t b.items) (ToVecFails t) c.to_vec_named-written.result c.to_vec_named-written.ensures.bytes c.to_vec_named-written.ensures.err) (h ne))
     c.if_written.ensures.err
+
+pub returns-clause-refused : goal.returns-clause-refused
+returns-clause-refused g c =
+    IfErr-weaker c.if_written.result _ _ (λ e h. inr (
+      readable (g.T.Deserialize.reads false true) g.T.RoundTrip.same named_settings (λ x. g.T.Serialize.data_of x false) c.args.input.now c.in-Ok.value 1024
+          c.in-Ok.ensures.ok,
+      h,
+    )) c.if_written.ensures.which

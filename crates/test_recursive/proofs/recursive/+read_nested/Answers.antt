@@ -4,12 +4,11 @@ use Rattle.rmp_decode.specs.Seq.{IsOpen}
 use Rattle.rmp_decode.proofs.Laws.{lawful_err}
 use Rattle.rmp_decode.proofs.Seqs.{values_start, values_step, via}
 use Rattle.test_recursive.specs.declared.recursive.Nested.{out-roll-Nested}
-use Rattle.test_recursive.specs.Recursion.{Row}
-use Rattle.test_recursive.specs.Recursive.{IsNested}
-use Rattle.test_recursive.specs.Layers.{nested_row}
-use Rattle.test_recursive.proofs.Steps.{nested_done}
-use Rattle.test_recursive.proofs.Recursion.{row_unopened, row_refused, row_unkept, part_steps, steps_at}
-use Rattle.test_recursive.proofs.Recursion.{item_taken, item_refused, some_if, some_if_err, none_left, never_none}
+use Rattle.rmp_recursive.specs.Parts.{Row}
+use Rattle.rmp_recursive.proofs.Parts.{row_unopened, row_refused, row_unkept, part_steps, steps_at}
+use Rattle.rmp_recursive.proofs.Parts.{item_taken, item_refused, some_if, some_if_err, none_left, never_none}
+use Rattle.test_recursive.specs.NestedLevels.{IsNested, nested_row}
+use Rattle.test_recursive.proofs.NestedLevels.{nested_done}
 use Rattle.test_recursive.proofs.recursive.+read_nested.Goals as goal
 
 pub returns-in_err-seq : goal.returns-in_err-seq

@@ -1,6 +1,6 @@
 use Rattle.rmp_decode.proofs.Seqs.{Values}
-use Rattle.test_recursive.specs.Recursive.{IsNested}
-use Rattle.test_recursive.proofs.Recursion.{steps_at}
+use Rattle.rmp_recursive.proofs.Parts.{steps_at}
+use Rattle.test_recursive.specs.NestedLevels.{IsNested}
 use Rattle.test_recursive.proofs.recursive.+read_nested.Given as goal
 
 abbrev pub decreases-read_nested : goal.decreases-read_nested

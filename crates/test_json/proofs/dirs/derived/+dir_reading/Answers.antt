@@ -1,4 +1,5 @@
 use Rattle.std.proofs.Common.{◌≡◌, ◌∙◌, refl, sym, ap, subst, List, None, Some, String, rules, arith, false, length}
+use Rattle.std.specs.Int.{w64}
 use Rattle.std.specs.String.{string_cmp, string_cmp_total}
 use Rattle.std.specs.declared.collections.BTreeMap.{BTreeMap}
 use Rattle.std.specs.Prelude.{◌<◌, string_bytes}
@@ -9,6 +10,7 @@ use Rattle.test_json.specs.declared.dirs.Dir.{Dir, out-Dir}
 use Rattle.test_json.specs.declared.dirs.Dir.TheViews.{out-roll-Dir}
 use Rattle.test_json.specs.DirLevels.{IsDir, DirFields, DirRead, DirFrom0, dir_names, dir_made, dir_read}
 use Rattle.std.proofs.lemmas.Result.{err_from_is_err_and}
+use Rattle.std.proofs.lemmas.Int.{to_z-of_z}
 use Rattle.rmp_decode.proofs.Laws.{lawful_ok, lawful_err}
 use Rattle.rmp_decode.proofs.Maps.{flat, map_unopened, map_done, map_unkept, map_take, map_key, key_next, value_next, entries_step, gathers_start, gathers_step}
 use Rattle.rmp_decode.proofs.Rows.{push}
@@ -18,7 +20,7 @@ use Rattle.rmp_decode.specs.Names.{bytes_of}
 use Rattle.rmp_decode.proofs.FieldWiths.{field_taken, field_refused}
 use Rattle.rmp_decode.proofs.StructRuns.{struct_start, struct_step, struct_place, struct_value, struct_met, struct_missing, struct_over, struct_done}
 use Rattle.rmp_decode.proofs.Structs.{fields_unopened}
-use Rattle.test_json.proofs.RecursionFields.{same_then, field_steps, run_reference}
+use Rattle.rmp_recursive.proofs.Fields.{same_then, field_steps, run_reference}
 use Rattle.test_json.proofs.DirLevels.{
   DirHeld0,
   dir_whole,
@@ -33,8 +35,8 @@ use Rattle.test_json.proofs.DirLevels.{
   dir_gap1,
   dir_lacks1,
 }
-use Rattle.test_json.proofs.RecursionMaps.{no_key, key_got, key_refused, value_got, value_refused, owing, to_come_some}
-use Rattle.test_json.proofs.Recursion.{steps_at, lawful_at, lent_law, some_if, some_if_err, none_left}
+use Rattle.rmp_recursive.proofs.Maps.{no_key, key_got, key_refused, value_got, value_refused, owing, to_come_some}
+use Rattle.rmp_recursive.proofs.Parts.{steps_at, lawful_at, lent_law, some_if, some_if_err, none_left}
 use Rattle.test_json.proofs.dirs.derived.+dir_reading.Goals as goal
 
 pub read_dir-returns-in-Err : goal.read_dir-returns-in-Err
@@ -55,6 +57,7 @@ read_dir-loop-fields-preserved-in-Ok-next_value_with g t c =
     let q = c.in-Ok-next_value_with.ensures in
     let took = field_taken g.R.Source _ _ c.next_field_by.new.self c.next_value_with.new.self p.still DirSlot0 q.same
     (λ d rest gave l y. lent_law g.R.Source _ _ DirSlot0 (λ a b n h. h) d rest gave y) c.in-Ok-next_value_with.value (q.part p.still) q.owes q.still in
+    rw (to_z-of_z w64 c.in-Ok-next_value_with.value (search rules))
     (struct_step g.R.Source dir_names DirHeld0 c.in-Ok.fields c.loop-fields.fields c.next_field_by.new.self c.next_value_with.new.self
     (c.loop-fields.slot0, (c.loop-fields.slot1, tt))
     ((Some c.in-Ok-next_value_with.value), (c.loop-fields.slot1, tt)) 0 DirSlot0 c.in-Ok-next_value_with.value r p k.same k.same_reference took q.same
@@ -190,7 +193,7 @@ read_dir-returns-in-Ok-end g t c =
     (rw c.in-Ok-None.field-0-is at (k.none r.still)) k.same k.same_reference in
     let last = c.in-Ok-given_or-2.ensures.ok.1 ∙ c.in-Ok-given_or.ensures.ok.1 in
     let e = c.in-Ok-end.ensures.ok (subst IsStructOpen (sym last) d.run.still) in
-    (record {
+    rw (to_z-of_z w64 c.in-Ok-given_or.value (search rules)) (record {
       law = lawful_ok _ DirRead IsDir _ _ _ _ (dir_made _)
           (struct_done g.R.Source dir_names DirHeld0 (DirFields IsDir) _ c.in-Ok.fields c.in-Ok.ensures.opened _ _ c.next_field_by.new.self d _
           (λ fs h. subst (λ z. DirFrom0 IsDir z fs) (sym (out-roll-Dir _))

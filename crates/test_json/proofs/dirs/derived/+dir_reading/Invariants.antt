@@ -7,7 +7,7 @@ use Rattle.rmp_decode.proofs.Maps.{Gathers}
 use Rattle.rmp_decode.proofs.StructRuns.{StructRun}
 use Rattle.test_json.specs.DirLevels.{IsDir, dir_names}
 use Rattle.test_json.proofs.DirLevels.{DirHeld0}
-use Rattle.test_json.proofs.Recursion.{steps_at}
+use Rattle.rmp_recursive.proofs.Parts.{steps_at}
 use Rattle.test_json.proofs.dirs.derived.+dir_reading.Given as goal
 
 -- Fields nest below their struct, and so does an element of a list, unless it is a number out of bytes.

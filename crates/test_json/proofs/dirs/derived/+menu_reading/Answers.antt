@@ -22,7 +22,7 @@ use Rattle.rmp_decode.specs.Names.{bytes_of}
 use Rattle.rmp_decode.proofs.FieldWiths.{field_taken, field_refused}
 use Rattle.rmp_decode.proofs.StructRuns.{struct_start, struct_step, struct_place, struct_value, struct_met, struct_missing, struct_over, struct_done}
 use Rattle.rmp_decode.proofs.Structs.{fields_unopened}
-use Rattle.test_json.proofs.RecursionFields.{same_then, field_steps, run_reference}
+use Rattle.rmp_recursive.proofs.Fields.{same_then, field_steps, run_reference}
 use Rattle.test_json.proofs.MenuLevels.{
   MenuPartHeld0,
   menu_part_whole,
@@ -37,8 +37,8 @@ use Rattle.test_json.proofs.MenuLevels.{
   menu_part_gap1,
   menu_part_lacks1,
 }
-use Rattle.test_json.proofs.RecursionMaps.{no_key, key_got, key_refused, value_got, value_refused, owing, to_come_some}
-use Rattle.test_json.proofs.Recursion.{at_most, variant_done, content_room_falls, lawful_at, lent_law, some_if, some_if_err, none_left}
+use Rattle.rmp_recursive.proofs.Maps.{no_key, key_got, key_refused, value_got, value_refused, owing, to_come_some}
+use Rattle.rmp_recursive.proofs.Parts.{at_most, variant_done, content_room_falls, lawful_at, lent_law, some_if, some_if_err, none_left}
 use Rattle.test_json.proofs.dirs.derived.+menu_reading.Goals as goal
 
 pub read_menu-returns-in-Ok-newtype_variant_with : goal.read_menu-returns-in-Ok-newtype_variant_with

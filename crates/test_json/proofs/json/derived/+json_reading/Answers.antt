@@ -8,9 +8,9 @@ use Rattle.rmp_decode.specs.Maps.{ReadsEntries, ReadsPairs, Collects, IsMapOpen}
 use Rattle.rmp_decode.specs.Read.{IsSigned, IsRaw}
 use Rattle.rmp_decode.specs.Seq.{IsOpen}
 use Rattle.rmp_decode.specs.Variants.{OfVariant, Bare, Content}
+use Rattle.rmp_recursive.specs.Parts.{Row}
 use Rattle.test_json.specs.declared.json.Json.{Json, out-Json}
 use Rattle.test_json.specs.declared.json.Json.TheViews.{out-roll-Json}
-use Rattle.test_json.specs.Recursion.{Row}
 use Rattle.test_json.specs.JsonLevels.{JsonCase, IsJson, json_names, json_made, json_variant}
 use Rattle.std.proofs.lemmas.Result.{err_from_is_err_and}
 use Rattle.std.proofs.lemmas.Int.{to_z-of_z}
@@ -20,8 +20,8 @@ use Rattle.rmp_decode.proofs.Rows.{push}
 use Rattle.rmp_decode.proofs.Seqs.{values_start, values_step, via}
 use Rattle.rmp_decode.proofs.Variants.{variant_err, variant_unopened, readable, given_read, given_refused}
 use Rattle.test_json.specs.declared.json.Json.TheVariants.{rolls-Null, rolls-Bool, rolls-Number, rolls-Text, rolls-List, rolls-Object}
-use Rattle.test_json.proofs.RecursionMaps.{no_key, key_got, key_refused, value_got, value_refused, owing, to_come_some}
-use Rattle.test_json.proofs.Recursion.{
+use Rattle.rmp_recursive.proofs.Maps.{no_key, key_got, key_refused, value_got, value_refused, owing, to_come_some}
+use Rattle.rmp_recursive.proofs.Parts.{
   variant_done,
   vec_row,
   vec_done,

@@ -16,26 +16,14 @@ decreases-read_formula-newtype_variant_with+3 g l = 8 * max 1 l.de.now.room + 7
 abbrev pub decreases-read_formula-newtype_variant_with+4 : goal.decreases-read_formula-newtype_variant_with+4
 decreases-read_formula-newtype_variant_with+4 g l = 8 * max 1 l.de.now.room + 7
 
-abbrev pub decreases-read_formula-newtype_variant_with+5 : goal.decreases-read_formula-newtype_variant_with+5
-decreases-read_formula-newtype_variant_with+5 g l = 8 * max 1 l.de.now.room + 7
-
-abbrev pub decreases-read_formula_add_values : goal.decreases-read_formula_add_values
-decreases-read_formula_add_values g l = 8 * max 1 l.de.now.room + 6
-
-abbrev pub decreases-read_formula_add_values-next_element_with : goal.decreases-read_formula_add_values-next_element_with
-decreases-read_formula_add_values-next_element_with g l = 8 * max 1 l.de.now.room + 5
-
-abbrev pub decreases-read_formula_add_values-next_element_with+2 : goal.decreases-read_formula_add_values-next_element_with+2
-decreases-read_formula_add_values-next_element_with+2 g l = 8 * max 1 l.de.now.room + 5
-
-abbrev pub decreases-read_formula_box : goal.decreases-read_formula_box
-decreases-read_formula_box g l = 8 * max 1 l.de.now.room + 2
-
 abbrev pub decreases-read_formula_shift_values : goal.decreases-read_formula_shift_values
 decreases-read_formula_shift_values g l = 8 * max 1 l.de.now.room + 6
 
 abbrev pub decreases-read_formula_shift_values-next_element_with : goal.decreases-read_formula_shift_values-next_element_with
 decreases-read_formula_shift_values-next_element_with g l = 8 * max 1 l.de.now.room + 5
+
+abbrev pub decreases-read_formula_box : goal.decreases-read_formula_box
+decreases-read_formula_box g l = 8 * max 1 l.de.now.room + 2
 
 abbrev pub decreases-read_formula_call_values : goal.decreases-read_formula_call_values
 decreases-read_formula_call_values g l = 8 * max 1 l.de.now.room + 6

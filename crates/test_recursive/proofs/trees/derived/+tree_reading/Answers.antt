@@ -4,16 +4,16 @@ use Rattle.std.specs.declared.alloc.Global.{Global}
 use Rattle.rmp_decode.specs.Read.{IsUnsigned}
 use Rattle.rmp_decode.specs.Seq.{IsOpen}
 use Rattle.rmp_decode.specs.Variants.{OfVariant, Content}
+use Rattle.rmp_recursive.specs.Parts.{Row}
 use Rattle.test_recursive.specs.declared.trees.Tree.{Tree, out-Tree}
 use Rattle.test_recursive.specs.declared.trees.Tree.TheViews.{out-roll-Tree}
-use Rattle.test_recursive.specs.Recursion.{Row}
 use Rattle.test_recursive.specs.TreeLevels.{TreeCase, IsTree, tree_names, tree_made, tree_variant}
 use Rattle.std.proofs.lemmas.Result.{err_from_is_err_and}
 use Rattle.rmp_decode.proofs.Laws.{lawful_err}
 use Rattle.rmp_decode.proofs.Seqs.{values_start, values_step, via}
 use Rattle.rmp_decode.proofs.Variants.{variant_err, variant_unopened, readable, given_read, given_refused}
 use Rattle.test_recursive.specs.declared.trees.Tree.TheVariants.{rolls-Leaf, rolls-Node}
-use Rattle.test_recursive.proofs.Recursion.{
+use Rattle.rmp_recursive.proofs.Parts.{
   variant_done,
   vec_row,
   vec_done,

@@ -1,7 +1,7 @@
 use Rattle.std.proofs.Common.{◌∙◌, refl, sym, arith}
 use Rattle.std.proofs.lemmas.Result.{err_from_is_err_and}
-use Rattle.test_json.proofs.Recursion.{ok_holds}
-use Rattle.test_json.specs.Recursion.{all_by}
+use Rattle.rmp_recursive.proofs.Parts.{ok_holds}
+use Rattle.rmp_recursive.specs.Parts.{all_by}
 use Rattle.rmp_encode.proofs.Going.{unopened}
 use Rattle.rmp_encode.proofs.Parts.{rests_at, part_memory}
 use Rattle.test_json.specs.DirLevels.{dir_is_own, dir_fits_in}

@@ -1,14 +1,14 @@
 use Rattle.std.proofs.Common.{◌∙◌, refl, sym, ap, rules}
+use Rattle.rmp_recursive.specs.Parts.{all_by}
 use Rattle.test_json.specs.declared.dirs.Menu.{out-Menu}
 use Rattle.test_json.specs.declared.dirs.Menu.TheOpen.{Menu-F}
 use Rattle.test_json.specs.declared.dirs.Menu.TheViews.{out-roll-Menu}
-use Rattle.test_json.specs.Recursion.{all_by}
 use Rattle.test_json.specs.MenuLevels.{menu_at_Part, menu_fits_in, menu_is_at}
 use Rattle.std.proofs.lemmas.Result.{err_from_is_err_and}
 use Rattle.rmp_encode.proofs.Going.{unopened}
 use Rattle.rmp_encode.proofs.Parts.{rests_at, part_memory}
 use Rattle.test_json.specs.declared.dirs.Menu.TheVariants.{rolls-Entry, rolls-Part}
-use Rattle.test_json.proofs.Recursion.{on_ok, ok_holds}
+use Rattle.rmp_recursive.proofs.Parts.{on_ok, ok_holds}
 use Rattle.test_json.proofs.dirs.derived.MenuSerialize.+menu_writing.Goals as goal
 
 pub returns-in-Entry-clause-value : goal.returns-in-Entry-clause-value

@@ -1,11 +1,11 @@
 use Rattle.std.proofs.Common.{◌∙◌, sym, ap}
+use Rattle.rmp_recursive.specs.Parts.{all_by}
 use Rattle.test_json.specs.declared.json.Json.{out-Json}
 use Rattle.test_json.specs.declared.json.Json.TheOpen.{Json-F}
 use Rattle.test_json.specs.declared.json.Json.TheViews.{out-roll-Json}
-use Rattle.test_json.specs.Recursion.{all_by}
 use Rattle.test_json.specs.JsonLevels.{json_at_Object, json_fits_in, json_is_at}
 use Rattle.test_json.specs.declared.json.Json.TheVariants.{rolls-Null, rolls-Bool, rolls-Number, rolls-Text, rolls-List, rolls-Object}
-use Rattle.test_json.proofs.Recursion.{on_ok, ok_holds}
+use Rattle.rmp_recursive.proofs.Parts.{on_ok, ok_holds}
 use Rattle.test_json.proofs.json.derived.JsonSerialize.+json_writing.Goals as goal
 
 pub returns-in-Null-clause-value : goal.returns-in-Null-clause-value

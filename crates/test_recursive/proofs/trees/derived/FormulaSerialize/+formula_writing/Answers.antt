@@ -1,21 +1,15 @@
 use Rattle.std.proofs.Common.{◌∙◌, refl, sym, ap, rules}
+use Rattle.rmp_recursive.specs.Parts.{all_by}
 use Rattle.test_recursive.specs.declared.trees.Formula.{out-Formula}
 use Rattle.test_recursive.specs.declared.trees.Formula.TheOpen.{Formula-F}
 use Rattle.test_recursive.specs.declared.trees.Formula.TheViews.{out-roll-Formula}
-use Rattle.test_recursive.specs.Recursion.{all_by}
 use Rattle.test_recursive.specs.FormulaLevels.{formula_at_If, formula_fits_in, formula_is_at}
 use Rattle.std.proofs.lemmas.Result.{err_from_is_err_and}
 use Rattle.rmp_encode.proofs.Going.{unopened}
 use Rattle.rmp_encode.proofs.Parts.{rests_at, part_memory}
-use Rattle.test_recursive.specs.declared.trees.Formula.TheVariants.{rolls-Number, rolls-Cell, rolls-Add, rolls-Shift, rolls-Call, rolls-If}
-use Rattle.test_recursive.proofs.Recursion.{on_ok, ok_holds}
+use Rattle.test_recursive.specs.declared.trees.Formula.TheVariants.{rolls-Cell, rolls-Shift, rolls-Call, rolls-If}
+use Rattle.rmp_recursive.proofs.Parts.{ok_holds}
 use Rattle.test_recursive.proofs.trees.derived.FormulaSerialize.+formula_writing.Goals as goal
-
-pub returns-in-Number-clause-value : goal.returns-in-Number-clause-value
-returns-in-Number-clause-value g t c =
-    let a = c.in-Number.value in
-    let is = ap out-Formula (c.in-Number.is ∙ sym (rolls-Number a)) ∙ out-roll-Formula (Formula-F.Number a) in
-    on_ok c.serialize_newtype_variant.result _ _ (λ h. formula_fits_in c.args.self.now (Formula-F.Number a) is (h)) c.serialize_newtype_variant.ensures.value
 
 pub returns-in_err-parts-in-Cell-clause-writes : goal.returns-in_err-parts-in-Cell-clause-writes
 returns-in_err-parts-in-Cell-clause-writes g t c =
@@ -70,57 +64,6 @@ returns-in_ok-serialize_element-in-Cell-2-clause-value g t c =
     (ap out-Formula (c.in-Cell.is ∙ sym (rolls-Cell c.in-Cell.first c.in-Cell.second))
     ∙ out-roll-Formula (Formula-F.Cell c.in-Cell.first c.in-Cell.second))
     (c.in_ok-serialize_element-in-Cell.ensures.value, c.in_ok-serialize_element-in-Cell-2.ensures.value))
-
-pub returns-in_err-parts-in-Add-clause-writes : goal.returns-in_err-parts-in-Add-clause-writes
-returns-in_err-parts-in-Add-clause-writes g t c =
-    let p = err_from_is_err_and c.from_residual-in_err-parts-in-Add.result c.from_residual-in_err-parts-in-Add.ensures.1 in
-    rw (
-      p.1,
-      p.2,
-      formula_is_at c.args.self.now (Formula-F.Add c.in-Add.first c.in-Add.second)
-          (ap out-Formula (c.in-Add.is ∙ sym (rolls-Add c.in-Add.first c.in-Add.second)) ∙ out-roll-Formula (Formula-F.Add c.in-Add.first c.in-Add.second)),
-    )
-    (part_memory g.W.Sink (unopened g.W.Sink _ _ _ _ c.args.se.now _ _ _ _ c.in_err-parts-in-Add.was
-    c.serialize_tuple_variant-in-Add.follows.holds-at-none refl))
-
-pub returns-in_err-serialize_element-in-Add-clause-writes : goal.returns-in_err-serialize_element-in-Add-clause-writes
-returns-in_err-serialize_element-in-Add-clause-writes g t c =
-    let p = err_from_is_err_and c.from_residual-in_err-serialize_element-in-Add.result c.from_residual-in_err-serialize_element-in-Add.ensures.1 in
-    rw (
-      p.1,
-      p.2,
-      formula_is_at c.args.self.now (Formula-F.Add c.in-Add.first c.in-Add.second)
-          (ap out-Formula (c.in-Add.is ∙ sym (rolls-Add c.in-Add.first c.in-Add.second)) ∙ out-roll-Formula (Formula-F.Add c.in-Add.first c.in-Add.second)),
-    )
-    (part_memory g.W.Sink (rests_at g.W.Sink (search rules)
-    (c.in_err-serialize_element-in-Add.ensures.writes c.args.se.now _ _ (c.in_ok-parts-in-Add.ensures.opened _ refl))))
-
-pub returns-in_err-serialize_element-in-Add-2-clause-writes : goal.returns-in_err-serialize_element-in-Add-2-clause-writes
-returns-in_err-serialize_element-in-Add-2-clause-writes g t c =
-    let p = err_from_is_err_and c.from_residual-in_err-serialize_element-in-Add-2.result c.from_residual-in_err-serialize_element-in-Add-2.ensures.1 in
-    rw (
-      p.1,
-      p.2,
-      formula_is_at c.args.self.now (Formula-F.Add c.in-Add.first c.in-Add.second)
-          (ap out-Formula (c.in-Add.is ∙ sym (rolls-Add c.in-Add.first c.in-Add.second)) ∙ out-roll-Formula (Formula-F.Add c.in-Add.first c.in-Add.second)),
-    )
-    (part_memory g.W.Sink (rests_at g.W.Sink (search rules)
-    (c.in_err-serialize_element-in-Add-2.ensures.writes c.args.se.now _ _
-    (c.in_ok-serialize_element-in-Add.ensures.writes c.args.se.now _ _ (c.in_ok-parts-in-Add.ensures.opened _ refl)))))
-
-pub returns-in_ok-serialize_element-in-Add-2-clause-writes : goal.returns-in_ok-serialize_element-in-Add-2-clause-writes
-returns-in_ok-serialize_element-in-Add-2-clause-writes g t c =
-    rw (formula_is_at c.args.self.now (Formula-F.Add c.in-Add.first c.in-Add.second)
-    (ap out-Formula (c.in-Add.is ∙ sym (rolls-Add c.in-Add.first c.in-Add.second)) ∙ out-roll-Formula (Formula-F.Add c.in-Add.first c.in-Add.second)))
-    (part_memory g.W.Sink (rests_at g.W.Sink (search rules) (c.end-in-Add.ensures.writes c.args.se.now _
-    (c.in_ok-serialize_element-in-Add-2.ensures.writes c.args.se.now _ _
-    (c.in_ok-serialize_element-in-Add.ensures.writes c.args.se.now _ _ (c.in_ok-parts-in-Add.ensures.opened _ refl))))))
-
-pub returns-in_ok-serialize_element-in-Add-2-clause-value : goal.returns-in_ok-serialize_element-in-Add-2-clause-value
-returns-in_ok-serialize_element-in-Add-2-clause-value g t c =
-    ok_holds c.end-in-Add.result _ (formula_fits_in c.args.self.now (Formula-F.Add c.in-Add.first c.in-Add.second)
-    (ap out-Formula (c.in-Add.is ∙ sym (rolls-Add c.in-Add.first c.in-Add.second)) ∙ out-roll-Formula (Formula-F.Add c.in-Add.first c.in-Add.second))
-    (c.in_ok-serialize_element-in-Add.ensures.value, c.in_ok-serialize_element-in-Add-2.ensures.value))
 
 pub returns-in_err-parts-in-Shift-clause-writes : goal.returns-in_err-parts-in-Shift-clause-writes
 returns-in_err-parts-in-Shift-clause-writes g t c =

@@ -1,9 +1,14 @@
 use Rattle.std.proofs.Common.{◌∙◌, sym, ap}
+use Rattle.rmp_recursive.specs.Parts.{all_by}
 use Rattle.test_recursive.specs.declared.trees.Term.{out-Term}
 use Rattle.test_recursive.specs.declared.trees.Term.TheOpen.{Term-F}
 use Rattle.test_recursive.specs.declared.trees.Term.TheViews.{out-roll-Term}
 use Rattle.test_recursive.specs.TermLevels.{term_fits_in}
 use Rattle.test_recursive.specs.declared.trees.Term.TheVariants.{
+  rolls-Nothing,
+  rolls-Number,
+  rolls-Name,
+  rolls-Truth,
   rolls-Letter,
   rolls-Half,
   rolls-Whole,
@@ -12,17 +17,44 @@ use Rattle.test_recursive.specs.declared.trees.Term.TheVariants.{
   rolls-Offset,
   rolls-Big,
   rolls-Wide,
-  rolls-Short,
-  rolls-Quoted,
+  rolls-Not,
+  rolls-Next,
+  rolls-Sum,
 }
-use Rattle.test_recursive.proofs.Recursion.{on_ok}
+use Rattle.rmp_recursive.proofs.Parts.{on_ok, ok_holds}
 use Rattle.test_recursive.proofs.trees.derived.TermSerialize.+term_writing.Goals as goal
+
+pub returns-in-Nothing-clause-value : goal.returns-in-Nothing-clause-value
+returns-in-Nothing-clause-value g t c =
+    let is = ap out-Term (c.in-Nothing.is ∙ sym rolls-Nothing) ∙ out-roll-Term Term-F.Nothing in
+    ok_holds c.serialize_unit_variant.result _ (term_fits_in c.args.self.now Term-F.Nothing is tt)
+
+pub returns-in-Number-clause-value : goal.returns-in-Number-clause-value
+returns-in-Number-clause-value g t c =
+    let a = c.in-Number.value in
+    let is = ap out-Term (c.in-Number.is ∙ sym (rolls-Number a)) ∙ out-roll-Term (Term-F.Number a) in
+    on_ok c.serialize_newtype_variant.result _ _ (λ h. term_fits_in c.args.self.now (Term-F.Number a) is (h)) c.serialize_newtype_variant.ensures.value
+
+pub returns-in-Name-clause-value : goal.returns-in-Name-clause-value
+returns-in-Name-clause-value g t c =
+    let a = c.in-Name.value in
+    let is = ap out-Term (c.in-Name.is ∙ sym (rolls-Name a)) ∙ out-roll-Term (Term-F.Name a) in
+    on_ok c.serialize_newtype_variant-in-Name.result _ _ (λ h. term_fits_in c.args.self.now (Term-F.Name a) is (h))
+    c.serialize_newtype_variant-in-Name.ensures.value
+
+pub returns-in-Truth-clause-value : goal.returns-in-Truth-clause-value
+returns-in-Truth-clause-value g t c =
+    let a = c.in-Truth.value in
+    let is = ap out-Term (c.in-Truth.is ∙ sym (rolls-Truth a)) ∙ out-roll-Term (Term-F.Truth a) in
+    on_ok c.serialize_newtype_variant-in-Truth.result _ _ (λ h. term_fits_in c.args.self.now (Term-F.Truth a) is (h))
+    c.serialize_newtype_variant-in-Truth.ensures.value
 
 pub returns-in-Letter-clause-value : goal.returns-in-Letter-clause-value
 returns-in-Letter-clause-value g t c =
     let a = c.in-Letter.value in
     let is = ap out-Term (c.in-Letter.is ∙ sym (rolls-Letter a)) ∙ out-roll-Term (Term-F.Letter a) in
-    on_ok c.serialize_newtype_variant.result _ _ (λ h. term_fits_in c.args.self.now (Term-F.Letter a) is (h)) c.serialize_newtype_variant.ensures.value
+    on_ok c.serialize_newtype_variant-in-Letter.result _ _ (λ h. term_fits_in c.args.self.now (Term-F.Letter a) is (h))
+    c.serialize_newtype_variant-in-Letter.ensures.value
 
 pub returns-in-Half-clause-value : goal.returns-in-Half-clause-value
 returns-in-Half-clause-value g t c =
@@ -73,16 +105,23 @@ returns-in-Wide-clause-value g t c =
     on_ok c.serialize_newtype_variant-in-Wide.result _ _ (λ h. term_fits_in c.args.self.now (Term-F.Wide a) is (h))
     c.serialize_newtype_variant-in-Wide.ensures.value
 
-pub returns-in-Short-clause-value : goal.returns-in-Short-clause-value
-returns-in-Short-clause-value g t c =
-    let a = c.in-Short.value in
-    let is = ap out-Term (c.in-Short.is ∙ sym (rolls-Short a)) ∙ out-roll-Term (Term-F.Short a) in
-    on_ok c.serialize_newtype_variant-in-Short.result _ _ (λ h. term_fits_in c.args.self.now (Term-F.Short a) is (h))
-    c.serialize_newtype_variant-in-Short.ensures.value
+pub returns-in-Not-clause-value : goal.returns-in-Not-clause-value
+returns-in-Not-clause-value g t c =
+    let a = c.in-Not.value in
+    let is = ap out-Term (c.in-Not.is ∙ sym (rolls-Not a)) ∙ out-roll-Term (Term-F.Not a) in
+    on_ok c.serialize_newtype_variant-in-Not.result _ _ (λ h. term_fits_in c.args.self.now (Term-F.Not a) is (h))
+    c.serialize_newtype_variant-in-Not.ensures.value
 
-pub returns-in-Quoted-clause-value : goal.returns-in-Quoted-clause-value
-returns-in-Quoted-clause-value g t c =
-    let a = c.in-Quoted.value in
-    let is = ap out-Term (c.in-Quoted.is ∙ sym (rolls-Quoted a)) ∙ out-roll-Term (Term-F.Quoted a) in
-    on_ok c.serialize_newtype_variant-in-Quoted.result _ _ (λ h. term_fits_in c.args.self.now (Term-F.Quoted a) is (h))
-    c.serialize_newtype_variant-in-Quoted.ensures.value
+pub returns-in-Next-clause-value : goal.returns-in-Next-clause-value
+returns-in-Next-clause-value g t c =
+    let a = c.in-Next.value in
+    let is = ap out-Term (c.in-Next.is ∙ sym (rolls-Next a)) ∙ out-roll-Term (Term-F.Next a) in
+    on_ok c.serialize_newtype_variant-in-Next.result _ _ (λ h. term_fits_in c.args.self.now (Term-F.Next a) is (h))
+    c.serialize_newtype_variant-in-Next.ensures.value
+
+pub returns-in-Sum-clause-value : goal.returns-in-Sum-clause-value
+returns-in-Sum-clause-value g t c =
+    let a = c.in-Sum.value in
+    let is = ap out-Term (c.in-Sum.is ∙ sym (rolls-Sum a)) ∙ out-roll-Term (Term-F.Sum a) in
+    on_ok c.serialize_newtype_variant-in-Sum.result _ _ (λ h. term_fits_in c.args.self.now (Term-F.Sum a) is (all_by _ a.items h))
+    c.serialize_newtype_variant-in-Sum.ensures.value

@@ -1,11 +1,11 @@
 use Rattle.std.proofs.Common.{◌∙◌, sym, ap}
+use Rattle.rmp_recursive.specs.Parts.{all_by}
 use Rattle.test_recursive.specs.declared.trees.Tree.{out-Tree}
 use Rattle.test_recursive.specs.declared.trees.Tree.TheOpen.{Tree-F}
 use Rattle.test_recursive.specs.declared.trees.Tree.TheViews.{out-roll-Tree}
-use Rattle.test_recursive.specs.Recursion.{all_by}
 use Rattle.test_recursive.specs.TreeLevels.{tree_fits_in}
 use Rattle.test_recursive.specs.declared.trees.Tree.TheVariants.{rolls-Leaf, rolls-Node}
-use Rattle.test_recursive.proofs.Recursion.{on_ok}
+use Rattle.rmp_recursive.proofs.Parts.{on_ok}
 use Rattle.test_recursive.proofs.trees.derived.TreeSerialize.+tree_writing.Goals as goal
 
 pub returns-in-Leaf-clause-value : goal.returns-in-Leaf-clause-value

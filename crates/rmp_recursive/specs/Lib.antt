@@ -1,0 +1,6 @@
+pub mod Parts
+pub mod Fields
+pub mod Maps
+pub mod Rounds
+pub mod Leaves
+pub mod MapRounds

@@ -1,9 +1,0 @@
-pub mod Recursion
-pub mod RecursionRounds
-pub mod RecursionFields
-pub mod StackLevels
-pub mod StackRounds
-pub mod RuleLevels
-pub mod RuleRounds
-pub mod StepLevels
-pub mod StepRounds

@@ -1,4 +1,0 @@
-pub mod Recursion
-pub mod RecursionFields
-pub mod PostLevels
-pub mod TaskLevels

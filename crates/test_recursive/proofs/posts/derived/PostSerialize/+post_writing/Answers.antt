@@ -1,0 +1,165 @@
+use Rattle.std.proofs.Common.{◌∙◌, refl, sym, arith}
+use Rattle.std.proofs.lemmas.Result.{err_from_is_err_and}
+use Rattle.rmp_recursive.proofs.Parts.{ok_holds}
+use Rattle.rmp_recursive.specs.Parts.{all_by}
+use Rattle.rmp_encode.proofs.Going.{unopened}
+use Rattle.rmp_encode.proofs.Parts.{rests_at, part_memory}
+use Rattle.test_recursive.specs.PostLevels.{post_is_own, post_fits_in}
+use Rattle.test_recursive.specs.declared.posts.Post.{out-Post}
+use Rattle.test_recursive.proofs.posts.derived.PostSerialize.+post_writing.Goals as goal
+
+pub returns-in_err-fields-clause-writes : goal.returns-in_err-fields-clause-writes
+returns-in_err-fields-clause-writes g t c =
+    let p = err_from_is_err_and c.from_residual.result c.from_residual.ensures.1 in
+    rw (p.1, p.2, post_is_own c.args.self.now) (part_memory g.W.Sink
+    (unopened g.W.Sink _ _ _ _ c.args.se.now _ _ _ _ c.in_err-fields.was c.serialize_struct.follows.holds-at-none refl))
+
+pub returns-in_err-serialize_field-clause-writes : goal.returns-in_err-serialize_field-clause-writes
+returns-in_err-serialize_field-clause-writes g t c =
+    let p = err_from_is_err_and c.from_residual-in_err-serialize_field.result c.from_residual-in_err-serialize_field.ensures.1 in
+    rw (p.1, p.2, post_is_own c.args.self.now) (part_memory g.W.Sink
+    (rests_at g.W.Sink (grind (arith, sym (c.in_err-serialize_field.ensures.same_reference ∙ c.in_ok-fields.ensures.same_reference)))
+    (c.in_err-serialize_field.ensures.writes c.args.se.now _ _ (c.in_ok-fields.ensures.opened _ refl))))
+
+pub returns-in_err-serialize_field-2-clause-writes : goal.returns-in_err-serialize_field-2-clause-writes
+returns-in_err-serialize_field-2-clause-writes g t c =
+    let p = err_from_is_err_and c.from_residual-in_err-serialize_field-2.result c.from_residual-in_err-serialize_field-2.ensures.1 in
+    rw (p.1, p.2, post_is_own c.args.self.now) (part_memory g.W.Sink
+    (rests_at g.W.Sink (grind (
+      arith,
+      sym (c.in_err-serialize_field-2.ensures.same_reference ∙ c.in_ok-serialize_field.ensures.same_reference
+          ∙ c.in_ok-fields.ensures.same_reference),
+    ))
+    (c.in_err-serialize_field-2.ensures.writes c.args.se.now _ _
+    (c.in_ok-serialize_field.ensures.writes c.args.se.now _ _ (c.in_ok-fields.ensures.opened _ refl)))))
+
+pub returns-in_err-serialize_field-3-clause-writes : goal.returns-in_err-serialize_field-3-clause-writes
+returns-in_err-serialize_field-3-clause-writes g t c =
+    let p = err_from_is_err_and c.from_residual-in_err-serialize_field-3.result c.from_residual-in_err-serialize_field-3.ensures.1 in
+    rw (p.1, p.2, post_is_own c.args.self.now) (part_memory g.W.Sink
+    (rests_at g.W.Sink (grind (
+      arith,
+      sym (c.in_err-serialize_field-3.ensures.same_reference ∙ c.in_ok-serialize_field-2.ensures.same_reference
+          ∙ c.in_ok-serialize_field.ensures.same_reference ∙ c.in_ok-fields.ensures.same_reference),
+    ))
+    (c.in_err-serialize_field-3.ensures.writes c.args.se.now _ _
+    (c.in_ok-serialize_field-2.ensures.writes c.args.se.now _ _
+    (c.in_ok-serialize_field.ensures.writes c.args.se.now _ _ (c.in_ok-fields.ensures.opened _ refl))))))
+
+pub returns-in_err-serialize_field-4-clause-writes : goal.returns-in_err-serialize_field-4-clause-writes
+returns-in_err-serialize_field-4-clause-writes g t c =
+    let p = err_from_is_err_and c.from_residual-in_err-serialize_field-4.result c.from_residual-in_err-serialize_field-4.ensures.1 in
+    rw (p.1, p.2, post_is_own c.args.self.now) (part_memory g.W.Sink
+    (rests_at g.W.Sink (grind (
+      arith,
+      sym (c.in_err-serialize_field-4.ensures.same_reference ∙ c.in_ok-serialize_field-3.ensures.same_reference
+          ∙ c.in_ok-serialize_field-2.ensures.same_reference ∙ c.in_ok-serialize_field.ensures.same_reference ∙ c.in_ok-fields.ensures.same_reference),
+    ))
+    (c.in_err-serialize_field-4.ensures.writes c.args.se.now _ _
+    (c.in_ok-serialize_field-3.ensures.writes c.args.se.now _ _
+    (c.in_ok-serialize_field-2.ensures.writes c.args.se.now _ _
+    (c.in_ok-serialize_field.ensures.writes c.args.se.now _ _ (c.in_ok-fields.ensures.opened _ refl)))))))
+
+pub returns-in_err-serialize_field-5-clause-writes : goal.returns-in_err-serialize_field-5-clause-writes
+returns-in_err-serialize_field-5-clause-writes g t c =
+    let p = err_from_is_err_and c.from_residual-in_err-serialize_field-5.result c.from_residual-in_err-serialize_field-5.ensures.1 in
+    rw (p.1, p.2, post_is_own c.args.self.now) (part_memory g.W.Sink
+    (rests_at g.W.Sink (grind (
+      arith,
+      sym (c.in_err-serialize_field-5.ensures.same_reference ∙ c.in_ok-serialize_field-4.ensures.same_reference
+          ∙ c.in_ok-serialize_field-3.ensures.same_reference ∙ c.in_ok-serialize_field-2.ensures.same_reference
+          ∙ c.in_ok-serialize_field.ensures.same_reference ∙ c.in_ok-fields.ensures.same_reference),
+    ))
+    (c.in_err-serialize_field-5.ensures.writes c.args.se.now _ _
+    (c.in_ok-serialize_field-4.ensures.writes c.args.se.now _ _
+    (c.in_ok-serialize_field-3.ensures.writes c.args.se.now _ _
+    (c.in_ok-serialize_field-2.ensures.writes c.args.se.now _ _
+    (c.in_ok-serialize_field.ensures.writes c.args.se.now _ _ (c.in_ok-fields.ensures.opened _ refl))))))))
+
+pub returns-in_err-serialize_field-6-clause-writes : goal.returns-in_err-serialize_field-6-clause-writes
+returns-in_err-serialize_field-6-clause-writes g t c =
+    let p = err_from_is_err_and c.from_residual-in_err-serialize_field-6.result c.from_residual-in_err-serialize_field-6.ensures.1 in
+    rw (p.1, p.2, post_is_own c.args.self.now) (part_memory g.W.Sink
+    (rests_at g.W.Sink (grind (
+      arith,
+      sym (c.in_err-serialize_field-6.ensures.same_reference ∙ c.in_ok-serialize_field-5.ensures.same_reference
+          ∙ c.in_ok-serialize_field-4.ensures.same_reference ∙ c.in_ok-serialize_field-3.ensures.same_reference
+          ∙ c.in_ok-serialize_field-2.ensures.same_reference ∙ c.in_ok-serialize_field.ensures.same_reference ∙ c.in_ok-fields.ensures.same_reference),
+    ))
+    (c.in_err-serialize_field-6.ensures.writes c.args.se.now _ _
+    (c.in_ok-serialize_field-5.ensures.writes c.args.se.now _ _
+    (c.in_ok-serialize_field-4.ensures.writes c.args.se.now _ _
+    (c.in_ok-serialize_field-3.ensures.writes c.args.se.now _ _
+    (c.in_ok-serialize_field-2.ensures.writes c.args.se.now _ _
+    (c.in_ok-serialize_field.ensures.writes c.args.se.now _ _ (c.in_ok-fields.ensures.opened _ refl)))))))))
+
+pub returns-in_err-serialize_field-7-clause-writes : goal.returns-in_err-serialize_field-7-clause-writes
+returns-in_err-serialize_field-7-clause-writes g t c =
+    let p = err_from_is_err_and c.from_residual-in_err-serialize_field-7.result c.from_residual-in_err-serialize_field-7.ensures.1 in
+    rw (p.1, p.2, post_is_own c.args.self.now) (part_memory g.W.Sink
+    (rests_at g.W.Sink (grind (
+      arith,
+      sym (c.in_err-serialize_field-7.ensures.same_reference ∙ c.in_ok-serialize_field-6.ensures.same_reference
+          ∙ c.in_ok-serialize_field-5.ensures.same_reference ∙ c.in_ok-serialize_field-4.ensures.same_reference
+          ∙ c.in_ok-serialize_field-3.ensures.same_reference ∙ c.in_ok-serialize_field-2.ensures.same_reference
+          ∙ c.in_ok-serialize_field.ensures.same_reference ∙ c.in_ok-fields.ensures.same_reference),
+    ))
+    (c.in_err-serialize_field-7.ensures.writes c.args.se.now _ _
+    (c.in_ok-serialize_field-6.ensures.writes c.args.se.now _ _
+    (c.in_ok-serialize_field-5.ensures.writes c.args.se.now _ _
+    (c.in_ok-serialize_field-4.ensures.writes c.args.se.now _ _
+    (c.in_ok-serialize_field-3.ensures.writes c.args.se.now _ _
+    (c.in_ok-serialize_field-2.ensures.writes c.args.se.now _ _
+    (c.in_ok-serialize_field.ensures.writes c.args.se.now _ _ (c.in_ok-fields.ensures.opened _ refl))))))))))
+
+pub returns-in_err-serialize_field-8-clause-writes : goal.returns-in_err-serialize_field-8-clause-writes
+returns-in_err-serialize_field-8-clause-writes g t c =
+    let p = err_from_is_err_and c.from_residual-in_err-serialize_field-8.result c.from_residual-in_err-serialize_field-8.ensures.1 in
+    rw (p.1, p.2, post_is_own c.args.self.now) (part_memory g.W.Sink
+    (rests_at g.W.Sink (grind (
+      arith,
+      sym (c.in_err-serialize_field-8.ensures.same_reference ∙ c.in_ok-serialize_field-7.ensures.same_reference
+          ∙ c.in_ok-serialize_field-6.ensures.same_reference ∙ c.in_ok-serialize_field-5.ensures.same_reference
+          ∙ c.in_ok-serialize_field-4.ensures.same_reference ∙ c.in_ok-serialize_field-3.ensures.same_reference
+          ∙ c.in_ok-serialize_field-2.ensures.same_reference ∙ c.in_ok-serialize_field.ensures.same_reference ∙ c.in_ok-fields.ensures.same_reference),
+    ))
+    (c.in_err-serialize_field-8.ensures.writes c.args.se.now _ _
+    (c.in_ok-serialize_field-7.ensures.writes c.args.se.now _ _
+    (c.in_ok-serialize_field-6.ensures.writes c.args.se.now _ _
+    (c.in_ok-serialize_field-5.ensures.writes c.args.se.now _ _
+    (c.in_ok-serialize_field-4.ensures.writes c.args.se.now _ _
+    (c.in_ok-serialize_field-3.ensures.writes c.args.se.now _ _
+    (c.in_ok-serialize_field-2.ensures.writes c.args.se.now _ _
+    (c.in_ok-serialize_field.ensures.writes c.args.se.now _ _ (c.in_ok-fields.ensures.opened _ refl)))))))))))
+
+pub returns-clause-writes : goal.returns-clause-writes
+returns-clause-writes g t c =
+    rw (post_is_own c.args.self.now) (part_memory g.W.Sink
+    (rests_at g.W.Sink (grind (
+      arith,
+      sym (c.in_ok-serialize_field-8.ensures.same_reference ∙ c.in_ok-serialize_field-7.ensures.same_reference
+          ∙ c.in_ok-serialize_field-6.ensures.same_reference ∙ c.in_ok-serialize_field-5.ensures.same_reference
+          ∙ c.in_ok-serialize_field-4.ensures.same_reference ∙ c.in_ok-serialize_field-3.ensures.same_reference
+          ∙ c.in_ok-serialize_field-2.ensures.same_reference ∙ c.in_ok-serialize_field.ensures.same_reference ∙ c.in_ok-fields.ensures.same_reference),
+    ))
+    (c.end.ensures.writes c.args.se.now _ (c.in_ok-serialize_field-8.ensures.writes c.args.se.now _ _
+    (c.in_ok-serialize_field-7.ensures.writes c.args.se.now _ _
+    (c.in_ok-serialize_field-6.ensures.writes c.args.se.now _ _
+    (c.in_ok-serialize_field-5.ensures.writes c.args.se.now _ _
+    (c.in_ok-serialize_field-4.ensures.writes c.args.se.now _ _
+    (c.in_ok-serialize_field-3.ensures.writes c.args.se.now _ _
+    (c.in_ok-serialize_field-2.ensures.writes c.args.se.now _ _
+    (c.in_ok-serialize_field.ensures.writes c.args.se.now _ _ (c.in_ok-fields.ensures.opened _ refl))))))))))))
+
+pub returns-clause-value : goal.returns-clause-value
+returns-clause-value g t c = ok_holds c.end.result _
+    (post_fits_in c.args.self.now _ refl (
+      c.in_ok-serialize_field.ensures.value,
+      c.in_ok-serialize_field-2.ensures.value,
+      c.in_ok-serialize_field-3.ensures.value,
+      c.in_ok-serialize_field-4.ensures.value,
+      c.in_ok-serialize_field-5.ensures.value,
+      c.in_ok-serialize_field-6.ensures.value,
+      c.in_ok-serialize_field-7.ensures.value,
+      (all_by _ (out-Post c.args.self.now).answers.items c.in_ok-serialize_field-8.ensures.value),
+    ))
