@@ -3,7 +3,7 @@
 
     tools/add.py REPOSITORY
 
-To REPOSITORY/crates go rmp_serde, rmp_recursive and the crates below them, without their edits and what was built, and to REPOSITORY/tools
+To REPOSITORY/crates go rmp_serde and the crates below it, without their edits and what was built, and to REPOSITORY/tools
 goes derive.py with what it imports. CHANGELOG.md goes to crates/rmp_serde; where a newer one takes its place, its new entries are printed.
 crates.txt gets the lines of these crates, and .gitignore the line `out/`. The file rmp_serde.lock has the commit and the checksum of each file
 that was copied. No file is replaced that isn't in it, or that was changed since.
@@ -11,16 +11,18 @@ that was copied. No file is replaced that isn't in it, or that was changed since
 from __future__ import annotations
 
 import ast
+import glob
 import hashlib
 import os
 import re
 import shutil
 import subprocess
 import sys
-from typing import NoReturn
+from typing import Iterator, NoReturn
 
 sys.dont_write_bytecode = True
-from crates import TOP, below, listed, sources
+from shared.crates import below, listed, sources
+from shared.files import TOP
 
 TOOLS = os.path.join(TOP, "tools")
 LOCK = "rmp_serde.lock"
@@ -37,19 +39,32 @@ def count(number: int, what: str) -> str:
     return f"{number} {what}{'s' * (number != 1)}"
 
 
+def imported(file: str) -> Iterator[str]:
+    """The files of tools/ that a file there may import: the modules, and the heads of their packages."""
+    with open(os.path.join(TOOLS, file), encoding="utf-8") as it:
+        nodes = list(ast.walk(ast.parse(it.read())))
+    names = [alias.name.split(".") for node in nodes if isinstance(node, ast.Import) for alias in node.names]
+    for node in nodes:
+        if isinstance(node, ast.ImportFrom):
+            # (each dot is a folder above the file)
+            path = file.split("/")[: -node.level] if node.level else []
+            path += node.module.split(".") if node.module else []
+            names += [path, *([*path, alias.name] for alias in node.names)]
+    for name in names:
+        yield from ("/".join([*name[:end], "__init__.py"]) for end in range(1, len(name) + 1))
+        yield "/".join(name) + ".py"
+
+
 def modules(name: str) -> list[str]:
-    """A script of tools/ and the modules there that it imports, each once."""
-    found, left = [], [name]
+    """A script of tools/ and the modules there that it imports, each once, with the tables in their packages."""
+    found, left = [], [f"{name}.py"]
     while left:
-        file = os.path.join(TOOLS, f"{left.pop()}.py")
-        if file in found or not os.path.isfile(file):
-            continue
-        found.append(file)
-        with open(file, encoding="utf-8") as it:
-            nodes = list(ast.walk(ast.parse(it.read())))
-        left += [alias.name for node in nodes if isinstance(node, ast.Import) for alias in node.names]
-        left += [node.module for node in nodes if isinstance(node, ast.ImportFrom) and node.module]
-    return found
+        file = left.pop()
+        if file not in found and os.path.isfile(os.path.join(TOOLS, file)):
+            found.append(file)
+            left += imported(file)
+    tables = [file for folder in dict.fromkeys(map(os.path.dirname, found)) if folder for file in glob.glob(f"{folder}/*.txt", root_dir=TOOLS)]
+    return [os.path.join(TOOLS, file) for file in [*found, *sorted(tables)]]
 
 
 def checksum(file: str) -> str:
@@ -168,7 +183,7 @@ def add(repository: str) -> None:
     if os.path.isfile(os.path.join(repository, "crates.txt")) and not os.path.isdir(os.path.join(repository, "crates")):
         stop(f"{repository} has no folder crates for the crates of crates.txt: move them there first")
     every = listed(os.path.join(TOP, "crates.txt"))
-    libraries = below(["rmp_serde", "rmp_recursive"], every)
+    libraries = below(["rmp_serde"], every)
     files = files_of(libraries)
     wanted = {path: checksum(file) for path, file in files.items()}
     copies = Copies(repository)
@@ -185,8 +200,7 @@ def add(repository: str) -> None:
         version = next(iter(after))
         print(f"added {', '.join(libraries)} {version} and tools/derive.py to {repository}: {count(len(wanted), 'file')} of commit {at}")
         print("".join(f"{line}\n" for line in said if line.startswith("changed")), end="")
-        print("A crate that depends on them has a line in crates.txt: NAME: rmp_serde rmp_encode rmp_decode rmp_wire")
-        print("Where a type of it contains itself, the line names rmp_recursive, too.")
+        print("A crate that depends on them has a line in crates.txt: NAME: rmp_serde")
     elif said:
         print("\n".join(said))
         print(f"{count(len(said), 'change')}: from commit {copies.commit} to {at}")

@@ -10,7 +10,7 @@ import re
 import sys
 
 sys.dont_write_bytecode = True
-from sources import RANK, Entry, Item, Library, close_of, impl_parts, page_of, split
+from testing.sources import RANK, Entry, Item, Library, close_of, impl_parts, page_of, split
 
 # The pages, in order.
 PAGES = ("", "encode", "decode", "config", "laws", "wire")

@@ -15,8 +15,9 @@ import sys
 import tempfile
 
 sys.dont_write_bytecode = True
-from crates import CRATES, PARTS, TOP, below, is_new, listed, rlib
-from derive import derive
+from shared.crates import CRATES, PARTS, below, is_new, listed, rlib
+from shared.files import TOP
+from derive.command import derive
 from lay_out import lay_out
 
 BENCH = os.path.join(TOP, "bench", "libraries")

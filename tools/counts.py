@@ -11,32 +11,23 @@ import statistics
 import sys
 
 sys.dont_write_bytecode = True
-import read_samples
-from crates import CRATES, TOP, listed
+from shared.crates import CRATES, listed
+from shared.files import TOP, files_below, read, write
+from testing import read_samples
 
-COUNT = os.path.join(TOP, "tests", "count")
 WRITTEN_TYPES = "Writes of many types"
 READ_TYPES = "Reads of many types"
 MANY_TYPES = "Many types in one program"
 
 
-def read(path):
-    with open(os.path.join(TOP, path), encoding="utf-8") as file:
-        return file.read()
-
-
-def files_below(*path):
-    return [os.path.join(at, it) for at, _, names in os.walk(os.path.join(TOP, *path)) for it in names]
-
-
 def count_tests():
     """How many tests each part of ./test has."""
-    must_fail = [it for crate in os.listdir(CRATES) for it in files_below("crates", crate, "must-fail") if it.endswith(".edit")]
-    calls = [it for it in files_below("tests", "programs", "calls") if it.endswith(".rs")]
+    must_fail = [it for crate in os.listdir(CRATES) for it in files_below("crates", crate, "must-fail", ending=".edit")]
+    calls = files_below("tests", "programs", "calls", ending=".rs")
     return {
         "gate": len(listed(os.path.join(TOP, "crates.txt"))) + len(must_fail),
-        "edits": sum(it.endswith(".edit") for it in files_below("tests", "edits")),
-        "lines": sum(it.endswith(".in") for it in files_below("tests", "lines")),
+        "edits": len(files_below("tests", "edits", ending=".edit")),
+        "lines": len(files_below("tests", "lines", ending=".in")),
         "run": len(os.listdir(os.path.join(TOP, "tests", "run"))),
         "calls": sum(read(it).count("#[test]") for it in calls),
     }
@@ -44,7 +35,7 @@ def count_tests():
 
 def count_unsafe():
     """How many blocks of the crates are `unsafe`."""
-    sources = [it for crate in os.listdir(CRATES) for it in files_below("crates", crate, "src") if it.endswith(".rt")]
+    sources = [it for crate in os.listdir(CRATES) for it in files_below("crates", crate, "src", ending=".rt")]
     return sum(len(re.findall(r"\bunsafe \{", read(it))) for it in sources)
 
 
@@ -109,8 +100,7 @@ def look_at_documents(is_written):
         if updated is None:
             yield f"{path} has this not once: {sentence}"
         elif updated != text and is_written:
-            with open(os.path.join(TOP, path), "w", encoding="utf-8") as file:
-                file.write(updated)
+            write(updated, path)
         elif updated != text:
             yield f"{path}: the counts are {', '.join(map(shown, counts))}, of: {sentence}"
 
@@ -125,7 +115,7 @@ def look_at_speed():
 
 def look_at_tests(is_written):
     """What is wrong in tests/count."""
-    lines = read(COUNT).split("\n")
+    lines = read("tests", "count").split("\n")
     least = {line.split()[0]: int(line.split()[1]) for line in lines if line and not line.startswith("#")}
     for part, count in count_tests().items():
         if count < least.get(part, 0):
@@ -135,8 +125,7 @@ def look_at_tests(is_written):
         elif count > least.get(part, 0):
             yield f"{part}: there are {count} tests, more than tests/count says: tools/counts.py --write raises it"
     if is_written:
-        with open(COUNT, "w", encoding="utf-8") as file:
-            file.write("\n".join(lines))
+        write("\n".join(lines), "tests", "count")
 
 
 def main():

@@ -20,7 +20,7 @@ TOP = os.path.join(os.path.dirname(os.path.abspath(__file__)), "..")
 CRATES = os.path.join(TOP, "crates")
 EDITS = os.path.join(TOP, "tests", "edits")
 CALLS = os.path.join(TOP, "tests", "programs", "calls")
-LIBRARIES = "rmp_wire rmp_encode rmp_decode rmp_scan rmp_ends rmp_path rmp_round_trip rmp_types rmp_serde canon_lines".split()
+LIBRARIES = "rmp_wire rmp_encode rmp_decode rmp_scan rmp_ends rmp_path rmp_round_trip rmp_types rmp_serde canon_lines rmp_c".split()
 # Functions whose body is another's, but for a width, a kind or a constant, or a call of it.
 ALIKE = {
     "IoSink_new": "IoSource_new",
@@ -54,7 +54,7 @@ ALIKE = {
     "as_f64_bits": "as_f32_bits",
     "is_err": "is_str",
 }
-FUNCTION = re.compile(r"^impl\b[^{;]*|^(?:pub )?trait [^{;]*|^\}|^ *(pub )?(?:const )?fn (\w+)", re.M)
+FUNCTION = re.compile(r"^impl\b[^{;]*|^(?:pub )?trait [^{;]*|^\}|^ *(pub )?(?:const )?(?:extern \"C\" )?fn (\w+)", re.M)
 # Nothing, a field or a reference to one, or a struct of what is given, with nothing read or written.
 PLAIN = re.compile(
     r"|(&(mut )?)?self(\.\w+)+(\.(as_slice|get_ref|get_mut|into_inner)\(\))?|\w+ \{ \w+(: self)? \}"

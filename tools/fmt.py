@@ -12,7 +12,7 @@ import sys
 import tempfile
 
 sys.dont_write_bytecode = True
-from crates import TOP
+from shared.files import TOP
 from lay_out import copy_sources
 
 

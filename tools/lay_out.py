@@ -10,7 +10,8 @@ import shutil
 import sys
 
 sys.dont_write_bytecode = True
-from crates import TOP, below, listed
+from shared.crates import below, listed
+from shared.files import TOP
 
 # Where files go in the crate that is laid out, by their endings, and how their names end there.
 PLACES = {".rs": ("src", ".rt"), ".proof": ("", ".antt")}

@@ -9,7 +9,8 @@ import re
 import sys
 
 sys.dont_write_bytecode = True
-from sources import Library, impl_parts, page_of, read
+from shared.files import read
+from testing.sources import Library, impl_parts, page_of
 
 HEADING = "## Names that are missing or elsewhere"
 # The modules whose names are compared.

@@ -16,7 +16,9 @@ import os
 import re
 import sys
 
-TOP = os.path.join(os.path.dirname(os.path.abspath(__file__)), "..")
+sys.dont_write_bytecode = True
+from shared.files import TOP, files_below, read
+
 # What a promise has to name, by the function and the clause that carry it.
 PREMISES = {
     ("written_is_read", "read"): "`RoundTrip`",
@@ -26,20 +28,6 @@ PREMISES = {
     ("write", "writes"): "tells its bytes",
 }
 ROW = re.compile(r"^\| (.*?) \| `(\w+)` \| (?:`(\w+)`)? ?\| `(\w+)` \| (?:`(\w+)`|none) \|$", re.M)
-
-
-def read(*path):
-    with open(os.path.join(TOP, *path), encoding="utf-8") as file:
-        return file.read()
-
-
-def names_below(*path):
-    found = []
-    for at, folders, files in os.walk(os.path.join(TOP, *path)):
-        # (what was built is no source)
-        folders[:] = [it for it in folders if it != "out"]
-        found += [os.path.join(at, it) for it in files]
-    return found
 
 
 def has_clause(sources, function, clause):
@@ -52,10 +40,10 @@ def has_clause(sources, function, clause):
 
 def look_at_table(sources, page):
     """What is wrong in the table of docs/PROVED.md."""
-    written = sources + [read(it) for it in names_below("tests", "programs") if it.endswith(".rs")]
+    written = sources + [read(it) for it in files_below("tests", "programs", ending=".rs")]
     tests = {name for text in written for name in re.findall(r"#\[test\]\s+fn (\w+)", text)}
-    tests |= {os.path.basename(it).partition(".")[0] for part in ("run", "lines") for it in names_below("tests", part)}
-    edits = {os.path.basename(it)[:-5] for it in names_below("crates") + names_below("tests", "edits") if it.endswith(".edit")}
+    tests |= {os.path.basename(it).partition(".")[0] for part in ("run", "lines") for it in files_below("tests", part)}
+    edits = {os.path.basename(it)[:-5] for part in ("crates", "tests") for it in files_below(part, ending=".edit")}
     rows = ROW.findall(page)
     if len(rows) != len(re.findall(r"^\|", page, re.M)) - 2:
         yield "a row of the table has another form"
@@ -106,11 +94,8 @@ def look_at_laws():
 
 def look_at_loops():
     """The pages and doc comments that show a loop over `next` of a reader."""
-    pages = ["README.md", *(it for it in names_below("docs") if it.endswith(".md"))]
-    shown = {it: read(it) for it in pages}
-    for path in names_below("crates"):
-        if path.endswith(".rt"):
-            shown[path] = "\n".join(re.findall(r"^ *//[/!].*", read(path), re.M))
+    shown = {it: read(it) for it in ["README.md", *files_below("docs", ending=".md")]}
+    shown |= {it: "\n".join(re.findall(r"^ *//[/!].*", read(it), re.M)) for it in files_below("crates", ending=".rt")}
     for path, text in shown.items():
         if re.search(r"while let .*\bde\.next\b", text):
             yield f"{os.path.relpath(path, TOP)}: a loop over `next` isn't proved without a measure: take `messages`"
@@ -118,14 +103,14 @@ def look_at_loops():
 
 def look_at_unsafe(page):
     """The sources with `unsafe` code that docs/PROVED.md doesn't name."""
-    for path in names_below("crates"):
+    for path in files_below("crates", ending=".rt"):
         name = os.path.relpath(path, TOP)
-        if path.endswith(".rt") and re.search(r"\bunsafe \{", read(path)) and f"`{name}`" not in page:
+        if re.search(r"\bunsafe \{", read(path)) and f"`{name}`" not in page:
             yield f"docs/PROVED.md: {name} has `unsafe` code"
 
 
 def main():
-    sources = [read(it) for it in names_below("crates") if it.endswith(".rt")]
+    sources = [read(it) for it in files_below("crates", ending=".rt")]
     page, readme = read("docs", "PROVED.md"), read("README.md")
     faults = [*look_at_table(sources, page), *look_at_readme(sources, readme), *look_at_premises(page)]
     faults += [*look_at_laws(), *look_at_loops(), *look_at_unsafe(page)]

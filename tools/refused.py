@@ -27,14 +27,15 @@ import re
 import subprocess
 import sys
 import tempfile
+import threading
 import time
 
 sys.dont_write_bytecode = True
 from archive import CRATES, copied, every_crate, kit_folder, not_new, words
-from crates import below
+from shared.crates import below
 from edits import edits_of, pairs, refusals, twin
-from evidence import counted, every_edit, in_words, name_of
-from failing import say_failing
+from testing.evidence import counted, every_edit, in_words, name_of
+from testing.failing import say_failing
 
 # An error at a goal of a function's proof file, and the goals that are open where there is no file or it doesn't have them.
 AT_GOAL = re.compile(r"\./proofs/(\S+)/(?:Answers|Invariants|Proof)\.antt:\d+:\d+: error: `([^`]+)`(.*)")
@@ -43,6 +44,9 @@ OPEN = re.compile(r"fn \w+?::(\S+): .*?`search` did not prove ((?:`[^`]+`(?:, )?
 GONE = re.compile(r"has no field|is not in scope|has no `|was not admitted")
 # How many edits are tried in one check: the more, the more memory it takes, which is 3 to 4 GB of the largest crate by so many.
 MOST = 45
+# How much memory has to be free before a check begins beside the gate, in kB: what it takes itself, and what the gate's proofs still grow by.
+ROOM = 8_000_000
+BEGINS = threading.Lock()
 FAULT = re.compile(r"\S+:\d+:\d+: error\[[\w-]+\]|rattle: .*")
 
 
@@ -188,6 +192,11 @@ def try_twins(crate, kept):
     return accepted, wrong
 
 
+def has_ended(log):
+    with open(log, encoding="utf-8", errors="replace") as file:
+        return re.search(r"^\d+ the gate ended$", file.read(), re.M) is not None
+
+
 def wait_for(libraries, log):
     """Waits until the gate has proved these libraries, and says whether it did."""
     while True:
@@ -195,9 +204,20 @@ def wait_for(libraries, log):
             said = file.read()
         if set(libraries) <= set(re.findall(r"^\d+ rt: (\w+) (?:proved$|is kept:)", said, re.M)):
             return True
-        if re.search(r"^\d+ the gate ended$", said, re.M):
+        if has_ended(log):
             return False
         time.sleep(1)
+
+
+def wait_for_room(log):
+    """Waits beside the gate until there is memory for one more check. The next waits for a minute more, when this one shows what it takes."""
+    with BEGINS:
+        while not has_ended(log):
+            with open("/proc/meminfo", encoding="utf-8") as file:
+                if int(re.search(r"^MemAvailable: +(\d+)", file.read(), re.M)[1]) >= ROOM:
+                    time.sleep(60)
+                    return
+            time.sleep(5)
 
 
 def tried(crate, log, is_written):
@@ -206,6 +226,8 @@ def tried(crate, log, is_written):
     if log and not wait_for(below(crates[crate][1], crates), log):
         print(f"{crate}: its libraries aren't proved", flush=True)
         return 0, len(list(read_edits(crate)))
+    if log:
+        wait_for_room(log)
     waited = time.monotonic() - began
     with tempfile.TemporaryDirectory() as kept:
         said, wrong = try_edits(crate, kept, is_written)

@@ -6,31 +6,30 @@
     tools/statement.py --check    ends with status 1 where one of them is old
 
 The page has each row of README's table with the clauses that it names, as they are in the code, and then every definition of specs/ that
-these rest on, the members of traits among them, each once and after what it rests on. A line that is a `use`, a header or blank doesn't count.
+these rest on, each once and after what it rests on. Of a trait these are the ghost members that are named. A line that is a `use`, a header
+or blank doesn't count.
+
+A state is a word whose definition isn't needed: the clauses that the page has say when it is true, and take it as a premise. Each has a line in
+tools/statement_words.txt.
 """
 from __future__ import annotations
 
 import argparse
-import glob
 import os
 import re
 import sys
 from dataclasses import dataclass, field
+from typing import Iterator
 
 sys.dont_write_bytecode = True
-from crates import TOP, listed
+from shared.crates import listed
+from shared.files import TOP, files_below, read, write
 
 PAGE = os.path.join(TOP, "docs", "STATEMENT.md")
 README = os.path.join(TOP, "README.md")
-WORDS = os.path.join(TOP, "tools", "statement_words.txt")
 NAME = r"[A-Za-z_][A-Za-z_0-9]*'?"
 USE = re.compile(r"^\s*(?:ghost |pub )*use (Rattle|native|Prim|lib)\.([A-Za-z0-9_.+]+?)\.\{([^}]*)\}", re.M)
 IN_README = re.compile(r"rest on \d+ lines of definitions")
-
-
-def read(*path: str) -> str:
-    with open(os.path.join(TOP, *path), encoding="utf-8") as file:
-        return file.read()
 
 
 def uses(text: str) -> dict[str, tuple[str, str]]:
@@ -116,33 +115,45 @@ def paragraphs(lines: list[str]) -> list[list[str]]:
     return found
 
 
+@dataclass
+class Trait:
+    """A trait of the code: its ghost members, and the traits above it."""
+
+    members: list[Definition]
+    above: list[str]
+
+
 class Sources:
     """The libraries' specs/, and what their code declares."""
 
     def __init__(self) -> None:
+        self.states = states()
         self.crates = [it for it in listed(os.path.join(TOP, "crates.txt")) if it.startswith("rmp_")]
         self.modules: dict[str, Module] = {}
         self.code: dict[str, str] = {}
         for crate in self.crates:
-            for file in sorted(glob.glob(os.path.join(TOP, "crates", crate, "specs", "**", "*.antt"), recursive=True)):
+            for file in files_below("crates", crate, "specs", ending=".antt"):
                 path = os.path.relpath(file, os.path.join(TOP, "crates", crate, "specs"))[: -len(".antt")]
                 name = f"{crate}.specs.{path.replace(os.sep, '.')}"
                 self.modules[name] = Module(name, read(file))
-            for file in sorted(glob.glob(os.path.join(TOP, "crates", crate, "src", "**", "*.rt"), recursive=True)):
+            for file in files_below("crates", crate, "src", ending=".rt"):
                 self.code[os.path.relpath(file, TOP)] = read(file)
-        self.traits = {it.names[0]: it for file, text in self.code.items() for it in traits(file, text)}
+        self.traits = {name: it for file, text in self.code.items() for name, it in traits(file, text)}
         self.where = {(m.name, name): it for m in self.modules.values() for it in m.definitions for name in it.names}
 
-    def find(self, module: str, word: str, brought: dict[str, tuple[str, str]]) -> Definition | None:
-        """The definition of a word in a module that brought in these names."""
-        here = self.where.get((module, word))
-        if here or word not in brought:
-            return here
-        there, name = brought[word]
+    def find(self, module: str, word: str, words: set[str], brought: dict[str, tuple[str, str]]) -> list[Definition]:
+        """The definitions of a word, one of these, in a module that brought in these names."""
+        there, name = (module, word) if (module, word) in self.where else brought.get(word, ("", ""))
         declared = re.search(r"specs\.declared\.(?:.*\.)?(\w+)$", there)
         if declared and name == "Ghosts":
-            return self.traits.get(declared[1])
-        return self.where.get((there, name))
+            return self.members(declared[1], words)
+        it = self.where.get((there, name))
+        return [it] if it and name not in self.states else []
+
+    def members(self, trait: str, words: set[str]) -> list[Definition]:
+        """The ghost members of a trait, and of those above it, that are named by one of these words."""
+        it = self.traits.get(trait)
+        return [*(x for x in it.members if x.names[0] in words), *(y for x in it.above for y in self.members(x, words))] if it else []
 
     def below(self, starts: list[Definition]) -> list[Definition]:
         """These definitions and all that they rest on, each after what it rests on."""
@@ -163,19 +174,23 @@ class Sources:
 
     def rests_on(self, it: Definition) -> list[Definition]:
         brought = self.modules[it.module].uses if it.module in self.modules else uses(self.code[it.module])
-        return [x for word in sorted(it.words) if (x := self.find(it.module, word, brought)) and x is not it]
+        return [x for word in sorted(it.words) for x in self.find(it.module, word, it.words, brought) if x is not it]
 
 
-def traits(file: str, text: str) -> list[Definition]:
-    """The traits of a file that have ghost members, with these members and the comments above them."""
-    found = []
-    for it in re.finditer(r"^pub trait (\w+)[^{]*\{\n(.*?)^\}", text, re.M | re.S):
-        lines: list[str] = []
-        for member in re.finditer(r"((?:^    //[^/].*\n)*)^    (ghost (?!use)\w+.*?;)\n", it[2], re.M | re.S):
-            lines += [x.replace("//", "--", 1) for x in member[1].splitlines()] + ["    " + x for x in member[2].split("\n")]
-        if lines:
-            found.append(Definition(file, [it[1]], lines, (f"-- of the trait `{it[1]}`",), words_in("\n".join(lines))))
-    return found
+def traits(file: str, text: str) -> Iterator[tuple[str, Trait]]:
+    """The traits of a file, by name, with their ghost members and the comments above these."""
+    for it in re.finditer(r"^pub trait (\w+)([^{]*)\{\n(.*?)^\}", text, re.M | re.S):
+        members = []
+        for member in re.finditer(r"((?:^    //[^/\n][^\n]*\n)*)^    (ghost (?!use)(\w+).*?;)\n", it[3], re.M | re.S):
+            lines = [x.replace("//", "--", 1) for x in member[1].splitlines()] + ["    " + x for x in member[2].split("\n")]
+            members.append(Definition(file, [member[3]], lines, (f"-- of the trait `{it[1]}`",), words_in("\n".join(lines))))
+        yield it[1], Trait(members, re.findall(r"\b([A-Z]\w+)", it[2]))
+
+
+def states() -> dict[str, str]:
+    """The states, and what each says."""
+    rows = re.findall(r"^state (\w+): (.+)$", read("tools", "statement_words.txt"), re.M)
+    return dict(rows)
 
 
 @dataclass
@@ -234,8 +249,9 @@ class Statement:
                 text = "\n".join(clause_in(contract, it) for it in re.findall(r"`(\w+)`", named))
                 clauses.append(Clause(file, name, signature, text))
                 brought = uses(sources.code[file])
-                starts += [it for word in sorted(words_in(text)) if (it := sources.find(file, word, brought))]
-                starts += [it for word in re.findall(r"\w+", contract) if (it := sources.traits.get(word))]
+                words = words_in(text)
+                starts += [it for word in sorted(words) for it in sources.find(file, word, words, brought)]
+                starts += [it for word in re.findall(r"\w+", contract) for it in sources.members(word, words)]
             self.promises.append((promise, clauses))
         self.definitions = sources.below(starts)
 
@@ -284,7 +300,7 @@ class Statement:
 def explained(std: set[str]) -> list[str]:
     """The lines of the words that are used."""
     found, rows = set(), []
-    for line in filter(lambda it: it.strip() and not it.startswith("#"), read("tools", "statement_words.txt").split("\n")):
+    for line in filter(lambda it: it.strip() and not it.startswith(("#", "state ")), read("tools", "statement_words.txt").split("\n")):
         words, _, meaning = line.partition(": ")
         used = [it for it in words.split() if it in std or it in ("Type", "¬", "◌×◌")]
         found |= set(words.split())
@@ -323,6 +339,9 @@ def page(statement: Statement) -> str:
         out += ["", f"### {number}. {promise}"]
         for it in clauses:
             out += ["", f"`{it.file}`:", "", "```", flush(it.signature), *("    " + x for x in flush(it.text).split("\n")), "```"]
+    out += ["", "## States", ""]
+    out += ["Of these no definition is needed. One clause above says when each becomes true, and another what follows from it.", ""]
+    out += [f"- `{word}`: {says}" for word, says in statement.sources.states.items()]
     out += ["", "## The definitions"]
     for found in statement.modules():
         out += section(statement.sources, found)
@@ -357,8 +376,7 @@ def main() -> int:
     old = []
     for file, text in ((PAGE, page(statement)), (README, IN_README.sub(sentence, read("README.md")))):
         if given.write:
-            with open(file, "w", encoding="utf-8") as out:
-                out.write(text)
+            write(text, file)
         elif not os.path.exists(file) or read(file) != text:
             old.append(os.path.relpath(file, TOP))
     print(f"the {len(statement.promises)} promises {sentence}, in {len(statement.definitions)} definitions")

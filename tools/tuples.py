@@ -8,18 +8,17 @@
 from __future__ import annotations
 
 import dataclasses
-from collections.abc import Callable, Iterable
+import os
+import sys
+from collections.abc import Callable, Iterable, Iterator
 from typing import Any
 
-import elements
-import ends_tuples
-import fields_then
-import read_fields
-import read_tuples
-import round_tuples
-import write_tuples
-from lines import write
-from shared import KINDS, MOST, Answers
+sys.dont_write_bytecode = True
+from shared.files import TOP, write
+from shared.lines import broken
+from shared.terms import KINDS, MOST, Answers
+from tuples import fields_then, laws, read
+from tuples import write as writes
 
 
 @dataclasses.dataclass(frozen=True)
@@ -33,28 +32,30 @@ class Written:
     each: Iterable
     answers: Callable[[Any], dict[str, Answers]] = lambda _: {}
 
-    def write(self) -> None:
-        write(self.head + "".join(map(self.item, self.each)), self.crate, self.path)
+    def texts(self) -> Iterator[tuple[str, str]]:
+        """Each text, with its file's path in the crate."""
+        yield self.path, self.head + "".join(map(self.item, self.each))
         for of in self.each:
             for folder, answers in self.answers(of).items():
                 place = f"proofs/{self.path.removeprefix('src/').removesuffix('.rt')}/{folder}"
-                write(answers.text(f"Rattle.{self.crate}.{place.replace('/', '.')}"), self.crate, place, "Answers.antt")
+                yield f"{place}/Answers.antt", answers.text(f"Rattle.{self.crate}.{place.replace('/', '.')}")
 
 
 WRITTEN = [
-    Written("rmp_encode", "src/ser/tuples.rt", write_tuples.HEAD, write_tuples.implementation, range(1, MOST + 1), write_tuples.answers),
-    Written("rmp_encode", "src/elements/kinds.rt", elements.HEAD, elements.implementation, range(1, MOST + 1), elements.answers),
-    Written("rmp_decode", "src/de/tuples.rt", read_tuples.HEAD, read_tuples.implementation, range(1, len(KINDS) + 1), read_tuples.answers),
-    Written("rmp_decode", "src/access/read_fields.rt", read_fields.HEAD, read_fields.function, read_fields.COUNTS),
-    Written("rmp_decode", "specs/ReadFields.antt", read_fields.SPECS, read_fields.reads, read_fields.COUNTS),
+    Written("rmp_encode", "src/ser/tuples.rt", writes.TUPLES_HEAD, writes.tuples, range(1, MOST + 1)),
+    Written("rmp_encode", "src/elements/kinds.rt", writes.ELEMENTS_HEAD, writes.elements, range(1, MOST + 1)),
+    Written("rmp_decode", "src/de/tuples.rt", read.TUPLES_HEAD, read.tuples, range(1, len(KINDS) + 1), read.answers),
+    Written("rmp_decode", "src/access/read_fields.rt", read.FIELDS_HEAD, read.read_fields, read.COUNTS),
+    Written("rmp_decode", "specs/ReadFields.antt", read.FIELDS_SPECS, read.reads_fields, read.COUNTS),
     *(
         Written("rmp_decode", f"src/access/fields/{group.module}.rt", fields_then.head(group), fields_then.implementation, [group], fields_then.answers)
         for group in (fields_then.EIGHT, fields_then.SIXTEEN)
     ),
-    Written("rmp_round_trip", "src/round_trip/tuples.rt", round_tuples.HEAD, round_tuples.implementation, range(1, MOST + 1)),
-    Written("rmp_ends", "src/ends_inside/tuples.rt", ends_tuples.HEAD, ends_tuples.implementation, range(1, len(KINDS) + 1)),
+    Written("rmp_round_trip", "src/round_trip/tuples.rt", laws.ROUNDS_HEAD, laws.rounds, range(1, MOST + 1)),
+    Written("rmp_ends", "src/ends_inside/tuples.rt", laws.ENDS_HEAD, laws.ends, range(1, len(KINDS) + 1)),
 ]
 
 if __name__ == "__main__":
     for written in WRITTEN:
-        written.write()
+        for path, text in written.texts():
+            write(broken(text, path.endswith(".antt")), os.path.abspath(sys.argv[1] if sys.argv[1:] else TOP), "crates", written.crate, path)

@@ -9,14 +9,17 @@ typed_read.txt and for those of typed_write.txt that are read, and src/types/der
 """
 import os
 import re
-import subprocess
 import sys
 
 sys.dont_write_bytecode = True
-import declarations
-import read_samples
+from derive.command import derive
+from derive.reading import renaming
+from derive.reading.modules import Module
+from derive.table.kinds import parted, split
+from shared.files import write
+from testing import read_samples
+from testing.model import heads
 
-TOOLS = os.path.dirname(os.path.abspath(__file__))
 # About how many lines the statements of a function take.
 LINES = 22
 
@@ -38,7 +41,7 @@ NUMBERS = "u8 u16 u32 u64 u128 usize i8 i16 i32 i64 i128 isize".split()
 HOMES = {
     "crate::by_hand": "Empty VOpt",
     "crate::ignored": "Ignored",
-    "rmp_serde": "Raw RawRef Value",
+    "rmp_serde": "Float64 Raw RawRef Value",
     "rmp_serde::wire": "ByteBuf Bytes Ext F32Bits F64Bits",
     "std::collections": "BTreeMap BTreeSet VecDeque",
     "test_derived": "Dog Four Newtype Opt Two Unit V12",
@@ -49,64 +52,26 @@ HOMES = {
 HOME = {name: home for home, names in HOMES.items() for name in names.split()}
 # The enum that is a key in the samples, and what means it, since a key has an order.
 KEYS = {"Two": "TwoKey"}
-# The fields of those that aren't derived here.
-SHAPES = """
-pub struct Dog { pub name: String, pub age: u16 }
-pub struct Opt { pub v: Option<u8> }
-pub struct Newtype(pub u64);
-pub struct Unit;
-pub struct TupleS(pub u8, pub u16);
-pub struct Rose { pub kids: Vec<Rose> }
-pub struct Empty {}
-pub enum Two { First, Second }
-pub enum V12 { V1, V2(u32, u32) }
-pub enum Four { Unit, New(u8), Tup(u8, u16), Str { a: u8, b: String } }
-pub enum Tree { Leaf(u8), Node(Vec<Tree>) }
-pub enum VOpt { N(Option<u8>), B(ByteBuf), T0() }
-"""
+# The fields of the types of which the deriving tool reads no declaration.
+BY_HAND = {"Empty": {}, "VOpt::N": {"0": "Option<u8>"}, "VOpt::B": {"0": "ByteBuf"}, "VOpt::T0": {}, "TupleS": {"0": "u8", "1": "u16"}}
 
 
-def shapes_of(text):
-    """What follows the name of each struct and each variant that is declared: None, or a dict of the fields' types, by names or places."""
-    found = {}
-    bare = re.sub(r"//[^\n]*|#\[[^\]]*\]", "", text)
-    for word, name, at in [(it[1], it[2], it.end()) for it in re.finditer(r"(struct|enum) (\w+)", bare)]:
-        if word == "struct":
-            found[name] = fields_of(bare[at : bare.index(";", at) if bare[at] in "(;" else declarations.closing(bare, bare.index("{", at))])
-            continue
-        body = bare[bare.index("{", at) + 1 : declarations.closing(bare, bare.index("{", at)) - 1]
-        for part in split(body):
-            variant = re.match(r"\w+", part)[0]
-            found[f"{name}::{variant}"] = fields_of(part[len(variant) :])
+def shapes_of(crate):
+    """The fields of each struct and of each variant, by their names or places, with their types."""
+    types = Module(crate, "types.rt").types()
+    for name, home in HOME.items():
+        own = Module(os.path.join(crate, "..", home), "lib.rt").named(name, ((home, ""),)) if home.startswith("test_") else None
+        types |= {name: own} if own else {}
+    found = dict(BY_HAND)
+    for name, own in types.items():
+        for shape in own.of.shapes():
+            found[name if own.of.shape else f"{name}::{shape.name}"] = {field.name: field.kind for field in [*shape.fields, *shape.skipped]}
     return found
 
 
-def fields_of(body):
-    body = body.strip()
-    parts = [re.sub(r"^pub ", "", part) for part in split(body[1:-1])]
-    if body.startswith("{"):
-        return dict(re.fullmatch(r"(\w+): (.*)", part).groups() for part in parts)
-    return {str(at): part for at, part in enumerate(parts)} if body else None
-
-
-def split(text):
-    """The parts of a list, at the commas outside of brackets and quotes."""
-    parts, depth, start, quote = [], 0, 0, None
-    for i, c in enumerate(text):
-        if quote:
-            if c == quote and text[i - 1] != "\\":
-                quote = None
-        elif c in "\"'":
-            quote = c
-        elif c in "([{<":
-            depth += 1
-        elif c in ")]}>":
-            depth -= 1
-        elif c == "," and not depth:
-            parts.append(text[start:i].strip())
-            start = i + 1
-    last = text[start:].strip()
-    return parts + [last] if last else parts
+def listed(text):
+    """The parts of a list of values."""
+    return [part.strip() for part in renaming.listed(text)]
 
 
 def inside(text, before, after):
@@ -115,48 +80,22 @@ def inside(text, before, after):
     return text[len(before) : len(text) - len(after)].strip()
 
 
-def of_generic(kind):
-    found = re.fullmatch(r"(\w+)<(.*)>", kind)
-    return (found[1], split(found[2])) if found else (kind, [])
-
-
-def spelled(value):
-    """A message, in Python's terms, in wide spellings."""
-    if value is None:
-        return b"\xc0"
-    if isinstance(value, bool):
-        return b"\xc3" if value else b"\xc2"
-    if isinstance(value, int):
-        return (b"\xd3" if value < 0 else b"\xcf") + value.to_bytes(8, "big", signed=value < 0)
-    if isinstance(value, str):
-        text = value.encode()
-        return b"\xda" + len(text).to_bytes(2, "big") + text
-    if isinstance(value, list):
-        return b"\xdd" + len(value).to_bytes(4, "big") + b"".join(map(spelled, value))
-    return value
-
-
 def message(value):
-    """The value of a sample's `Value`, in Python's terms."""
-    if value == "Value::Nil":
-        return None
-    name, _, rest = value.partition("(")
+    """The value of a sample's `Value`, as a message in wide spellings."""
+    name, _, rest = value.removeprefix("Value::").partition("(")
     rest = rest[:-1]
-    if name == "Value::Truth":
-        return rest == "true"
-    if name == "Value::Whole":
-        return int(rest)
-    if name == "Value::F64":
-        return b"\xcb" + int(rest, 0).to_bytes(8, "big")
-    if name == "Value::Text":
-        return inside(rest, 's("', '")')
-    if name == "Value::List":
-        return [message(part) for part in split(inside(rest, "vec![", "]"))]
-    if name == "Value::Ext":
-        tag, data = split(rest)
-        data = bytes(int(part) for part in split(inside(data, "vec![", "]")))
-        return b"\xc9" + len(data).to_bytes(4, "big") + int(tag).to_bytes(1, "big", signed=True) + data
-    raise ValueError(value)
+    if name == "Text":
+        text = inside(rest, 's("', '")').encode()
+        return heads("text", len(text))[-1] + text
+    if name == "List":
+        parts = listed(inside(rest, "vec![", "]"))
+        return heads("list", len(parts))[-1] + b"".join(map(message, parts))
+    if name == "Ext":
+        tag, data = listed(rest)
+        data = bytes(int(part) for part in listed(inside(data, "vec![", "]")))
+        return heads("ext", len(data), int(tag))[-1] + data
+    kind, n = {"Nil": ("nil", "0"), "Truth": ("truth", f"{rest == 'true':d}"), "Whole": ("number", rest), "F64": ("float64", rest)}[name]
+    return heads(kind, int(n, 0))[-1]
 
 
 class Body:
@@ -182,14 +121,14 @@ class Body:
         item, _, count = body.partition(";")
         if count:
             return f"vec![in alloc; {self.value(kind, item)}; {count.strip()}]?"
-        return f"vec![in alloc; {', '.join(self.value(kind, part) for part in split(body))}]?"
+        return f"vec![in alloc; {', '.join(self.value(kind, part) for part in listed(body))}]?"
 
     def slice(self, kind, value):
         body = inside(value, "[", "]")
         item, _, count = body.partition(";")
         if count:
             return f"[{self.value(kind, item)}; {count.strip()}]"
-        return f"[{', '.join(self.value(kind, part) for part in split(body))}]"
+        return f"[{', '.join(self.value(kind, part) for part in listed(body))}]"
 
     def pairs(self, kinds, value):
         """Keys and values: from a list of pairs, or from a range."""
@@ -199,8 +138,8 @@ class Body:
             return [(self.value(kinds[0], str(i)), self.value(kinds[1], str(second(i)))) for i in range(int(made[1]))]
         body = re.sub(r"^vec!", "", value)
         found = []
-        for part in split(inside(body, "[", "]")):
-            key, item = split(inside(part, "(", ")"))
+        for part in listed(inside(body, "[", "]")):
+            key, item = listed(inside(part, "(", ")"))
             found.append((self.value(kinds[0], key), self.value(kinds[1], item)))
         return found
 
@@ -226,11 +165,11 @@ class Body:
         return made
 
     def ext(self, value):
-        tag, data = split(inside(value, "ext(", ")"))
+        tag, data = listed(inside(value, "ext(", ")"))
         return f"Ext::new({tag}, {self.vec('u8', 'vec!' + inside(data, '&', ''))})"
 
     def any_value(self, value):
-        wide = ", ".join(f"0x{b:02x}" for b in spelled(message(value)))
+        wide = ", ".join(f"0x{b:02x}" for b in message(value))
         return self.let(f"from_slice(alloc, &[{wide}])?", kind="Value")
 
     def value(self, kind, value):
@@ -251,7 +190,7 @@ class Body:
             name, _, rest = value[:-1].partition("(")
             return f"{name}({self.value('Vec<u8>' if rest.startswith('vec!') else 'String', rest)})"
         if kind.startswith("(") and kind.endswith(")"):
-            kinds, parts = split(kind[1:-1]), split(value[1:-1])
+            kinds, parts = split(kind[1:-1]), listed(value[1:-1])
             made = [self.value(k, p) for k, p in zip(kinds, parts, strict=True)]
             return f"({made[0]},)" if len(made) == 1 else f"({', '.join(made)})"
         if kind.startswith("["):
@@ -272,7 +211,7 @@ class Body:
         if kind.startswith("&"):
             inner = self.value(kind[1:], inside(value, "&", ""))
             return f"&{self.let(inner) if inner.startswith('&') else inner}"
-        name, inner = of_generic(kind)
+        name, inner = parted(kind)
         if name == "Option":
             return self.let("None", kind=kind) if value == "None" else f"Some({self.value(inner[0], inside(value, 'Some(', ')'))})"
         if name == "Box":
@@ -281,11 +220,11 @@ class Body:
             return self.vec(inner[0], value)
         if name == "VecDeque":
             body = "[]" if value == "VecDeque::new()" else inside(value, "VecDeque::from(", ")")
-            return self.filled(name, inner[0], split(inside(body, "[", "]")), "push_back")
+            return self.filled(name, inner[0], listed(inside(body, "[", "]")), "push_back")
         if name == "KnownSeq":
-            return self.filled("VecDeque", inner[0], split(inside(value, "KnownSeq(vec![", "])")), "push_back")
+            return self.filled("VecDeque", inner[0], listed(inside(value, "KnownSeq(vec![", "])")), "push_back")
         if name == "BTreeSet":
-            return self.filled(name, inner[0], split(inside(value, "BTreeSet::from([", "])")), "insert")
+            return self.filled(name, inner[0], listed(inside(value, "BTreeSet::from([", "])")), "insert")
         if name == "BTreeMap":
             body = value if value.startswith("(0..") else inside(value, "BTreeMap::from(", ")")
             return self.map_of(inner, body)
@@ -298,7 +237,7 @@ class Body:
     def of_shape(self, kind, value):
         """A struct or a variant, whose fields' types are known."""
         if value.startswith("dog("):
-            name, age = split(inside(value, "dog(", ")"))
+            name, age = listed(inside(value, "dog(", ")"))
             value = f"Dog {{ name: {name if name.startswith('s(') else f's({name})'}, age: {age} }}"
         name = re.match(r"[\w:]+", value)[0]
         if not (name == kind or name.startswith(f"{kind}::")):
@@ -307,9 +246,9 @@ class Body:
         if not shape:
             return value
         if rest.startswith("{"):
-            parts = dict(part.split(": ", 1) for part in split(rest[1:-1]))
+            parts = dict(part.split(": ", 1) for part in listed(rest[1:-1]))
             return f"{name} {{ {', '.join(f'{field}: {self.value(shape[field], part)}' for field, part in parts.items())} }}"
-        parts = [self.value(shape[str(at)], part) for at, part in enumerate(split(rest[1:-1]))]
+        parts = [self.value(shape[str(at)], part) for at, part in enumerate(listed(rest[1:-1]))]
         return f"{name}({', '.join(parts)})"
 
 
@@ -382,16 +321,12 @@ def kinds_module(own, part, parts):
 
 
 def main():
-    crate = sys.argv[1]
+    crate = os.path.abspath(sys.argv[1])
     part, parts = (int(sys.argv[2]), int(sys.argv[3])) if len(sys.argv) == 4 else (0, 1)
-    sources = os.path.join(crate, "src")
-    with open(os.path.join(sources, "types.rt"), encoding="utf-8") as file:
-        derived = shapes_of(file.read())
-    own = {name.partition("::")[0] for name in derived}
-    for name, text in [("rows", rows_module({**shapes_of(SHAPES), **derived}, own, part, parts)), ("kinds", kinds_module(own, part, parts))]:
-        with open(os.path.join(sources, f"{name}.rt"), "w", encoding="utf-8") as file:
-            file.write(text)
-    subprocess.run([sys.executable, os.path.join(TOOLS, "derive.py"), crate, "types.rt"], check=True)
+    own = {it.of.name for it in Module(crate, "types.rt").wanted()}
+    write(rows_module(shapes_of(crate), own, part, parts), crate, "src", "rows.rt")
+    write(kinds_module(own, part, parts), crate, "src", "kinds.rt")
+    derive(crate, "types.rt")
 
 
 if __name__ == "__main__":

@@ -3,11 +3,15 @@
 #[path = "../measure.rs"]
 #[allow(dead_code)]
 mod measure;
+#[path = "../named.rs"]
+mod named;
 #[path = "../parts.rs"]
 #[allow(dead_code)]
 mod parts;
 
 use measure::{Answer, Load, Random, Runs};
+use named::call_over;
+pub use named::{Calls, OfBytes};
 use parts::Form::{List, Map};
 use parts::{EIGHT, Form, NINE, Part, mixed, spelled, structure, text};
 
@@ -15,19 +19,6 @@ const RUNS: Runs = Runs { reps: 20, runs: 3 };
 
 /// How many elements a list has.
 const COUNT: usize = 100;
-
-/// A call goes so many times over its bytes, and answers the elements of all rounds, or the bytes of the last one.
-pub type OfBytes = fn(&[u8], u32) -> usize;
-
-/// The calls that are measured, by their names.
-pub struct Calls(pub Vec<(&'static str, OfBytes)>);
-
-impl Calls {
-    fn named(&self, name: &str) -> OfBytes {
-        let call = self.0.iter().find(|call| call.0 == name);
-        call.expect("a call of that name").1
-    }
-}
 
 /// How a value of a kind is in a message.
 type Spelling = fn(&mut Random, Form) -> Part;
@@ -268,14 +259,7 @@ const STRUCTS: [(&str, &str, Spelling); 20] = [
 
 /// A load of a list, by a call.
 fn load(name: String, call: String, items: &[Part], answer: Answer) -> Load<Calls> {
-    let data = spelled(items);
-    let found: &'static str = String::leak(call);
-    Load {
-        name: String::leak(name),
-        count: items.len(),
-        work: Box::new(move |calls: &Calls, reps| calls.named(found)(&data, reps) as u64),
-        answer,
-    }
+    call_over(name, call, items.len(), spelled(items), answer)
 }
 
 /// The loads of a kind: it is read, and written, by itself or by names.

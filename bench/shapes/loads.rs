@@ -3,28 +3,19 @@
 #[path = "../measure.rs"]
 #[allow(dead_code)]
 mod measure;
+#[path = "../named.rs"]
+mod named;
 #[path = "../parts.rs"]
 mod parts;
 mod written;
 
 use measure::{Answer, Load, Random, Runs, number_of_width};
+use named::call_over;
+pub use named::{Calls, OfBytes};
 use parts::{EIGHT, Form, NINE, Part, mixed, spell, spelled, structure, structures, text};
 use std::ops::Range;
 
 const RUNS: Runs = Runs { reps: 20, runs: 7 };
-
-/// A call goes so many times over its bytes, and answers the elements of all rounds.
-pub type OfBytes = fn(&[u8], u32) -> usize;
-
-/// The calls that are measured, by their names.
-pub struct Calls(pub Vec<(&'static str, OfBytes)>);
-
-impl Calls {
-    fn named(&self, name: &str) -> OfBytes {
-        let call = self.0.iter().find(|call| call.0 == name);
-        call.expect("a call of that name").1
-    }
-}
 
 const TWO: &[&str] = &["id", "on"];
 const FIVE: &[&str] = &["id", "name", "age", "score", "note"];
@@ -87,22 +78,6 @@ fn tree(random: &mut Random) -> Part {
 /// The loads that were made.
 struct Made {
     loads: Vec<Load<Calls>>,
-}
-
-fn call_over(
-    name: String,
-    call: String,
-    count: usize,
-    data: Vec<u8>,
-    answer: Answer,
-) -> Load<Calls> {
-    let found: &'static str = String::leak(call);
-    Load {
-        name: String::leak(name),
-        count,
-        work: Box::new(move |calls: &Calls, reps| calls.named(found)(&data, reps) as u64),
-        answer,
-    }
 }
 
 impl Made {

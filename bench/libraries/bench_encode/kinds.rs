@@ -7,7 +7,7 @@ use rmp_wire::{ByteBuf, F32Bits, F64Bits, ReadRefReader};
 use std::alloc::Global;
 use std::collections::BTreeMap;
 use test_derived::{Dog, Four};
-use test_mixed::Papers;
+use test_wide::Papers;
 
 // Reads a list, and writes it so many times.
 #[inline(always)]

@@ -1,20 +1,10 @@
 //! Measures the proved code: the exports of bench_shapes in bench/libraries, and those of bench_encode that write values of many types.
 
+#[macro_use]
+#[path = "../../exports.rs"]
+mod exports;
 #[path = "../loads.rs"]
 mod loads;
-
-macro_rules! exports {
-    ($($name:ident)*) => {
-        unsafe extern "C" {
-            $(fn $name(data: *const u8, count: usize, reps: u32) -> usize;)*
-        }
-
-        fn calls() -> Vec<(&'static str, loads::OfBytes)> {
-            // SAFETY: each export reads a slice, which it is given as a pointer and a length, and keeps nothing of it.
-            vec![$((stringify!($name), |d, reps| unsafe { $name(d.as_ptr(), d.len(), reps) })),*]
-        }
-    };
-}
 
 exports! {
     bench_ahead_numbers

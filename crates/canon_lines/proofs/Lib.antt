@@ -8,7 +8,12 @@ pub mod MessageReads
 pub mod OneCheck
 pub mod OneOutput
 pub mod OneRefusal
+pub mod OneShowing
 pub mod Printing
 pub mod Reading
+pub mod Refusing
+pub mod Showing
 pub mod Shown
+pub mod ShownLines
+pub mod ShownNext
 pub mod Walking

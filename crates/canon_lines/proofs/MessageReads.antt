@@ -57,7 +57,7 @@ module _ {C : Type 0} (h : Ghosts ReadRefReader) (tells : TellsRest h) (old new 
   ahead_is d k = bare h d k ∙ tells.ahead d.reader
 
   -- what was taken
-  taken : (b : List ℕ) → new.kept ≡ Nothing → Consumes (left h old) (left h new) b → rest_of old.reader ≡ b ++ rest_of new.reader
+  pub taken : (b : List ℕ) → new.kept ≡ Nothing → Consumes (left h old) (left h new) b → rest_of old.reader ≡ b ++ rest_of new.reader
   taken b k p = subst (λ o. Consumes (Some (rest_of old.reader)) o b) (ahead_is new k) (subst (λ o. Consumes o (left h new) b) (ahead_is old kept) p)
 
   -- a message was read, and these are its tree and its canonical spelling

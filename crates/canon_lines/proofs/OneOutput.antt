@@ -51,7 +51,7 @@ ends_none : (a : Bool) (place : ℕ) (rest out : List ℕ) → EndsAs a place re
 ends_none true place rest out p = λ b more m e s accepted. let less = shorter m b rest more s e in absurd (omega (arith, less, ap length p.0))
 ends_none false place rest out p = p.none
 
-split_once : (ms ns : List Msg) (a b x y : List ℕ) → SpellsAll a (msgs ms) → SpellsAll b (msgs ns) → All IsAccepted ms → All IsAccepted ns → a ++ x ≡ b ++ y
+pub split_once : (ms ns : List Msg) (a b x y : List ℕ) → SpellsAll a (msgs ms) → SpellsAll b (msgs ns) → All IsAccepted ms → All IsAccepted ns → a ++ x ≡ b ++ y
     → NoneBegins x → NoneBegins y → (ms ≡ ns) × (a ≡ b) × (x ≡ y)
 split_once [] [] a b x y p q f g e n o = (refl, p ∙ sym q, ap (λ z. z ++ x) (sym p) ∙ e ∙ ap (λ z. z ++ y) q)
 split_once [] (k ∷ ks) a b x y p q f g e n o =

@@ -1,11 +1,17 @@
 pub mod Buffers
 pub mod Checks
+pub mod Complaints
 pub mod Firsts
+pub mod Held
+pub mod HexLines
 pub mod Input
 pub mod Lines
+pub mod Options
 pub mod Messages
 pub mod Output
 pub mod Prints
+pub mod Refused
 pub mod Refusals
+pub mod Shows
 pub mod Status
 pub mod Texts

@@ -38,8 +38,8 @@ fn write_out<W: Sink>(bytes: &[u8], sink: &mut W) -> (usize, Result<bool, SinkFa
     (written, Ok(true))
 }
 
-// Removes the first bytes.
-fn remove_front(bytes: &mut Vec<u8>, count: usize)
+/// Removes the first bytes.
+pub fn remove_front(bytes: &mut Vec<u8>, count: usize)
     requires within { count ≤ vec_len bytes.old }
     ensures items { bytes.new.items ≡ drop count bytes.old.items }
     ensures capacity { vec_capacity bytes.new ≡ vec_capacity bytes.old }

@@ -1,7 +1,8 @@
 //! The laws of what is printed, over the definitions alone. Each is the contract of a function that does
 //! nothing.
 
-ghost use Rattle.std.specs.Prelude.{◌≡◌, ◌≢◌, ℕ, Bool, List};
+ghost use Rattle.std.specs.Prelude.{◌≡◌, ◌≢◌, ℕ, Bool, List, Option, Some};
+ghost use Rattle.std.specs.Option.{is_none};
 ghost use Rattle.rmp_decode.specs.Refuse.{Refusal};
 ghost use Rattle.rmp_decode.specs.declared.error.Error.{Error};
 ghost use Rattle.rmp_decode.specs.declared.error.Error.TheVariants as errors;
@@ -12,6 +13,9 @@ ghost use Rattle.canon_lines.specs.Checks.{StopsAt, PrintsChecks};
 ghost use Rattle.canon_lines.specs.Lines.{lines_in};
 ghost use Rattle.canon_lines.specs.Messages.{error_name, refused_text};
 ghost use Rattle.canon_lines.specs.Prints.{line, RefusesAt, PrintsMessages, PrintsAll};
+ghost use Rattle.canon_lines.specs.Shows.{Shows};
+ghost use Rattle.canon_lines.specs.declared.show.Form.{Form};
+ghost use Rattle.canon_lines.specs.declared.show.refused.Refused.{Refused};
 
 /// The bytes at which a message is refused determine the name of the error, unless out of memory. Only one
 /// thing is the first that is wrong there, and one name says so, for a strict read and a lenient one.
@@ -48,4 +52,13 @@ pub fn one_check()
 pub fn no_refusal_for_memory()
     ensures run { (place : ℕ) (rest : List ℕ) → RefusesAt place rest (line (refused_text place errors.OutOfMemory)) → ⊥ }
     ensures check { (place : ℕ) (rest : List ℕ) → StopsAt place rest (line (refused_text place errors.OutOfMemory)) → ⊥ }
+{}
+
+/// The input determines what `show` prints of it, whether a message is refused, and the number of that one: the bytes that are looked at
+/// before a refusal show that no message which can be read begins there, whatever follows them.
+pub fn one_showing()
+    ensures output { (form : Form) (input out other : List ℕ) (r s : Option Refused) → Shows form input out r → Shows form input other s
+        → (out ≡ other) × (is_none r ≡ is_none s) }
+    ensures number { (form : Form) (input out other : List ℕ) (r s : Refused) → Shows form input out (Some r) → Shows form input other (Some s)
+        → r.number ≡ s.number }
 {}

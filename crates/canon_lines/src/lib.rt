@@ -9,6 +9,7 @@ pub mod laws;
 mod leaf;
 mod lines;
 pub mod run;
+pub mod show;
 pub mod task;
 mod text;
 

@@ -119,8 +119,8 @@ fn append(input: &mut Vec<u8>, piece: &[u8]) -> Result<(), AllocError>
     input.extend_from_slice(piece)
 }
 
-// Reads the source to its end.
-fn read_to_end<R: Source>(alloc: Global, source: &mut R) -> Result<Vec<u8>, RunFault>
+/// Reads the source to its end.
+pub fn read_to_end<R: Source>(alloc: Global, source: &mut R) -> Result<Vec<u8>, RunFault>
     ensures taken { IfOk result (λ v. Consumes (R.ahead source.old) (R.ahead source.new) v.items) }
     ensures whole { IfOk result (λ v. IfSome (R.ahead source.old) (λ input. v.items ≡ input)) }
     ensures sound { OnOk result (R.faults source.new ≡ R.faults source.old) }
@@ -270,9 +270,9 @@ fn has_no_end(block: &[u8]) -> bool
     !found
 }
 
-// The first line, and what follows its end, where it has one.
+/// The first line, and what follows its end, where it has one.
 #[inline(always)]
-fn first_line(text: &[u8]) -> (&[u8], Option<&[u8]>)
+pub fn first_line(text: &[u8]) -> (&[u8], Option<&[u8]>)
     ensures lines { lines_in text.now ≡ result.0.now ∷ lines_left result.1 }
     ensures shorter { IfSome result.1 (λ more. length more.now < length text.now) }
 {

@@ -15,11 +15,21 @@ use crate::leaf::tell_flat;
 use crate::lines::{self, RunFault, Shows, Stop, print_line, refuse_message};
 use crate::text::Text;
 use rmp_decode::{Deserializer, Error};
-use rmp_serde::Value;
 use rmp_serde::encode::write;
 use rmp_serde::wire::{Sink, Source};
+use rmp_serde::{Canon, Value, check_canonical};
 use std::alloc::{AllocError, Global};
 use std::io;
+
+// How many bytes are looked at for a head that isn't canonical.
+const FRONT: usize = 64;
+
+// Whether a head that isn't canonical is among the first. Such a message isn't begun as a canonical one, which would be given up there: a
+// short one took a fifth more.
+fn begins_wide(alloc: Global, bytes: &[u8]) -> bool {
+    let front = &bytes[..bytes.len().min(FRONT)];
+    matches!(check_canonical(alloc, front), Ok(Canon::Fault(_)))
+}
 
 // The memory of a message's line, which is kept for the next one.
 #[derive(Drop)]
@@ -87,6 +97,9 @@ impl Messages {
             Ok(0) => {}
             Ok(len) => return Ok(len),
             Err(_) => return Err(Error::OutOfMemory),
+        }
+        if begins_wide(alloc, bytes) {
+            return self.tell_value(alloc, bytes);
         }
         match self.tell_canonical(alloc, bytes) {
             Ok(0) => self.tell_value(alloc, bytes),

@@ -1,21 +1,23 @@
 //! Frames: written, and read from peers that aren't trusted.
-ghost use Rattle.std.specs.Prelude.{◌≡◌, Some, ◌≢◌, ◌≤◌, ◌<◌, ◌+◌, ◌++◌, List, ℕ, false, true, length, IfOk, IfErr, [], ◌∷◌};
+ghost use Rattle.std.specs.Prelude.{◌≡◌, Some, None, ◌≢◌, ◌≤◌, ◌<◌, ◌+◌, ◌++◌, List, ℕ, false, true, length, IfOk, IfErr, IfSome, [], ◌∷◌};
 ghost use Rattle.example_frames.specs.Frames.{SaysLength, message_of, IsFrame, Asks, Taken, NoneFor, RefusedFor, StopsFor, WrongFor};
 ghost use Rattle.example_frames.specs.declared.frames.Refusal.TheVariants as refusal;
 ghost use Rattle.rmp_decode.specs.declared.error.Error.TheVariants.{OutOfMemory};
 ghost use Rattle.rmp_decode.specs.Exact.{IsEnd};
+ghost use Rattle.rmp_decode.specs.Law.{Begins, Readable};
 ghost use Rattle.rmp_encode.specs.Calls.{default_settings};
 ghost use Rattle.rmp_encode.specs.Trees.{tree_of};
 ghost use Rattle.rmp_encode.specs.declared.error.Error.TheVariants as encode_error;
 ghost use Rattle.rmp_scan.specs.Scans.{IsBeginning};
+ghost use Rattle.rmp_serde.specs.Explaining.{ExplainsRead, error_in};
 ghost use Rattle.rmp_serde.specs.Read.{AllTextsUtf8};
 ghost use Rattle.rmp_wire.specs.Msg.{depth};
-ghost use Rattle.rmp_wire.specs.Spelling.{Fits};
+ghost use Rattle.rmp_wire.specs.Spelling.{Fits, Spells};
 
 use crate::request::Request;
 use rmp_serde::decode::{Deserialize, Error};
 use rmp_serde::encode::Serialize;
-use rmp_serde::{Deserializer, encode, laws, to_vec};
+use rmp_serde::{Deserializer, Explained, encode, explain, laws, to_vec};
 use rmp_wire::ReadRefReader;
 use rmp_wire::read::number_32;
 use std::alloc::Global;
@@ -91,6 +93,23 @@ pub fn next_request<'de>(
     match request_in(alloc, body) {
         Ok(request) => Ok((request, rest)),
         Err(e) => Err(e),
+    }
+}
+
+/// Explains why a frame's content, which follows the four bytes of its length, is no request. It returns `None` where the content begins
+/// with one.
+pub fn explain_request<'de>(alloc: Global, content: &'de [u8]) -> Option<Explained>
+    // The line names the part that is wrong,
+    ensures explained { IfSome result (ExplainsRead content.now) }
+    // and no request begins there, or memory ran out.
+    ensures some { IfSome result (λ e. NoneFor (⟦<Request as Deserialize<'de, ReadRefReader<'de>>>⟧.reads false true) content.now (error_in e)) }
+    ensures none { result ≡ None → Begins Spells (Readable (⟦<Request as Deserialize<'de, ReadRefReader<'de>>>⟧.reads false true)) 16 content.now }
+{
+    let mut de = Deserializer::from_read_ref(alloc, content);
+    de.set_max_depth(MAX_DEPTH);
+    match Request::deserialize(&mut de) {
+        Ok(_) => return None,
+        Err(e) => return Some(explain(&de, e)),
     }
 }
 

@@ -5,6 +5,6 @@ mod frames;
 mod request;
 mod stream;
 
-pub use frames::{Refusal, next_request, write_request};
+pub use frames::{Refusal, explain_request, next_request, write_request};
 pub use request::Request;
 pub use stream::{Incoming, StreamRefusal, write_bare};

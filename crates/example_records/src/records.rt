@@ -8,7 +8,7 @@ ghost use Rattle.rmp_decode.specs.Law.{Begins, Readable};
 ghost use Rattle.rmp_encode.specs.Calls.{default_settings, ToVecFails};
 ghost use Rattle.rmp_encode.specs.Trees.{tree_of};
 ghost use Rattle.rmp_scan.specs.Scans.{IsBeginning};
-ghost use Rattle.rmp_serde.specs.Explaining.{Explains, error_in};
+ghost use Rattle.rmp_serde.specs.Explaining.{ExplainsRead, error_in};
 ghost use Rattle.rmp_serde.specs.Read.{AllTextsUtf8, reads_value};
 ghost use Rattle.rmp_serde.specs.ValueData.{value_data};
 
@@ -144,7 +144,7 @@ pub fn tail_of(rest: &[u8]) -> Tail
 /// Explains for a log why the bytes that `replay` leaves begin with no record. `None`: they begin with one.
 pub fn explain_tail(alloc: Global, rest: &[u8]) -> Option<Explained>
     // The line names the part that is wrong,
-    ensures explained { IfSome result (λ e. (position : ℕ) × (levels : ℕ) × Explains rest.now position levels (error_in e) e) }
+    ensures explained { IfSome result (ExplainsRead rest.now) }
     // and there is no record, or memory ran out.
     ensures some { IfSome result (λ e. error_in e ≢ Error.OutOfMemory → Begins Spells (Readable reads_value) 1024 rest.now → ⊥) }
     ensures none { result ≡ None → Begins Spells (Readable reads_value) 1024 rest.now }

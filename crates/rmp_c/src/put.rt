@@ -38,13 +38,13 @@ pub extern "C" fn rmp_put_bool(out: &mut [u8], at: &mut usize, value: bool) -> u
 
 /// Puts an integer from 0 on, in its shortest encoding, as `rmp_put_nil` puts nil.
 #[unsafe(no_mangle)]
-pub extern "C" fn rmp_put_uint(out: &mut [u8], at: &mut usize, number: u64) -> u32
-    ensures written { result ≡ 0 → IsPut (canon (whole (pos number))) at.old at.new out.old out.new }
-    ensures short { result ≡ 8 → NoRoom (canon (whole (pos number))) at.old at.new (length out.old) }
+pub extern "C" fn rmp_put_uint(out: &mut [u8], at: &mut usize, n: u64) -> u32
+    ensures written { result ≡ 0 → IsPut (canon (whole (pos n))) at.old at.new out.old out.new }
+    ensures short { result ≡ 8 → NoRoom (canon (whole (pos n))) at.old at.new (length out.old) }
     ensures kept { result ≢ 0 → out.new ≡ out.old }
     ensures status { (result ≡ 0) ⊎ (result ≡ 8) }
 {
-    put_head(out, at, Head::Whole(i128::from(number)))
+    put_head(out, at, Head::Whole(i128::from(n)))
 }
 
 /// Puts an integer, in its shortest encoding, as `rmp_put_nil` puts nil.

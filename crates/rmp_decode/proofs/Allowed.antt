@@ -1,30 +1,6 @@
 -- Heads that may be read: those of one byte, and where reading isn't strict all others.
-use Rattle.std.proofs.Common.{
-  ◌≡◌,
-  ◌∙◌,
-  sym,
-  ap,
-  subst,
-  refl,
-  ℕ,
-  ℤ,
-  pos,
-  ◌+◌,
-  ◌<◌,
-  [],
-  ◌∷◌,
-  Bool,
-  true,
-  false,
-  Result,
-  Ok,
-  Err,
-  IfErr,
-  FitsSigned,
-  nat_lt,
-  to_z,
-  of_z,
-}
+use Rattle.std.proofs.Common.{◌≡◌, ◌∙◌, sym, ap, subst, refl, ℕ, ℤ, pos, ◌+◌, ◌<◌, [], ◌∷◌, Bool, true, false, Result, Ok, Err, IfErr, FitsSigned}
+use Rattle.std.proofs.Common.{nat_lt, to_z, of_z}
 use Rattle.std.proofs.lemmas.Bool.{lt-ltb}
 use Rattle.std.proofs.lemmas.Int.{to_z-of_z}
 use Rattle.std.specs.Int.{w128}

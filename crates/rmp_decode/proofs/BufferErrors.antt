@@ -1,36 +1,6 @@
 -- Which error comes of a list where bytes of its own are wanted.
-use Rattle.std.proofs.Common.{
-  ◌≡◌,
-  ◌≢◌,
-  ◌∙◌,
-  sym,
-  ap,
-  subst,
-  refl,
-  ℕ,
-  pos,
-  ◌<◌,
-  ◌≤◌,
-  max,
-  inl,
-  inr,
-  arith,
-  List,
-  [],
-  ◌∷◌,
-  ◌++◌,
-  Option,
-  None,
-  Some,
-  IfSome,
-  Bool,
-  true,
-  false,
-  Result,
-  Ok,
-  Err,
-  IfErr,
-}
+use Rattle.std.proofs.Common.{◌≡◌, ◌≢◌, ◌∙◌, sym, ap, subst, refl, ℕ, pos, ◌<◌, ◌≤◌, max, inl, inr, arith, List, [], ◌∷◌, ◌++◌, Option, None, Some}
+use Rattle.std.proofs.Common.{IfSome, Bool, true, false, Result, Ok, Err, IfErr}
 use Rattle.std.specs.Io.KnownBytes.{Consumes}
 use Rattle.rmp_wire.specs.declared.head.Head.{Head}
 use Rattle.rmp_wire.specs.declared.head.Head.TheVariants.{Whole, Array}
@@ -40,20 +10,8 @@ use Rattle.rmp_wire.specs.Canonical.{heads_of, SpellsAs}
 use Rattle.rmp_wire.specs.Msg.{Msgs, no_items, item, count, depth, depth_all}
 use Rattle.rmp_wire.specs.Taking.{marker_of}
 use Rattle.rmp_wire.proofs.Strict.{heads_differ_as}
-use Rattle.rmp_decode.specs.Buffers.{
-  ListAfterHead,
-  NoByte,
-  RefusesItem,
-  RefusesItems,
-  RefusesListOf,
-  RefusesListIn,
-  RefusesList,
-  AtItem,
-  LeavesList,
-  ListLeaves,
-  LeavesBuffer,
-  BufferLeaves,
-}
+use Rattle.rmp_decode.specs.Buffers.{ListAfterHead, NoByte, RefusesItem, RefusesItems, RefusesListOf, RefusesListIn, RefusesList, AtItem, LeavesList}
+use Rattle.rmp_decode.specs.Buffers.{ListLeaves, LeavesBuffer, BufferLeaves}
 use Rattle.rmp_decode.specs.Consumed.{LeavesAfter, LeavesRest, no_payload}
 use Rattle.rmp_decode.specs.Content.{IsRawHead}
 use Rattle.rmp_decode.specs.Exact.{BeginsWith, Exact, RefusesExactly, EndsExactly, TellsFault}

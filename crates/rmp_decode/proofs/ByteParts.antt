@@ -1,5 +1,5 @@
 -- A byte of bytes that is read as a number.
-use Rattle.std.proofs.Common.{◌≡◌, ◌≢◌, ◌∙◌, sym, ap, subst, true, ℕ, pos, ◌<◌, Bool, List, [], ◌∷◌, ◌++◌, Option, None, Some}
+use Rattle.std.proofs.Common.{◌≡◌, ◌≢◌, ◌∙◌, sym, ap, subst, true, inl, inr, ℕ, pos, ◌<◌, Bool, List, [], ◌∷◌, ◌++◌, Option, None, Some}
 use Rattle.std.proofs.lemmas.List.{append-nil, append_cancel_left}
 use Rattle.std.specs.Io.KnownBytes.{Consumes, IsAtEnd, prepend_known}
 use Rattle.rmp_wire.specs.declared.head.Head.TheVariants.{Whole}
@@ -8,9 +8,9 @@ use Rattle.rmp_wire.specs.Heads.{canon_head}
 use Rattle.rmp_wire.specs.Msg.{Msg, whole}
 use Rattle.rmp_wire.specs.Canonical.{SpellsAs}
 use Rattle.rmp_wire.proofs.Strict.{canon_in, spelled_once_as}
-use Rattle.rmp_decode.specs.Exact.{IsDataEnd}
+use Rattle.rmp_decode.specs.Exact.{IsDataEnd, UnlessFault}
 use Rattle.rmp_decode.specs.Law.{Refuses, Reads, Explains}
-use Rattle.rmp_decode.specs.Refusing.{Refusals, RefusedIn}
+use Rattle.rmp_decode.specs.Refusing.{Refusals, RefusedByte, RefusedIn}
 use Rattle.rmp_decode.specs.Seq.{SpellsByte, KeepsByte}
 use Rattle.rmp_decode.specs.State.{left, faults_of, kept_bytes}
 use Rattle.rmp_decode.specs.declared.deserializer.Deserializer.{Deserializer}
@@ -18,6 +18,7 @@ use Rattle.rmp_decode.specs.declared.deserializer.Kept.TheVariants.{Nothing}
 use Rattle.rmp_decode.specs.declared.error.Error.{Error}
 use Rattle.rmp_decode.specs.declared.error.Error.TheVariants.{OutOfMemory}
 use Rattle.rmp_decode.proofs.Contents.{bare}
+use Rattle.rmp_decode.proofs.Exactness.{fault_or}
 use Rattle.rmp_decode.proofs.HeadTaken.{fits_byte}
 
 one_number : (w : Bool) (n : ℕ) (bytes more : List ℕ) (tree : Msg) → n < 256 → bytes ≡ canon_head (Whole (pos n)) ++ more → SpellsAs w bytes tree
@@ -100,28 +101,29 @@ number_missing g old P room clean e = rw (bare g old clean) (missing P room (g.a
 
 module _ (P : Refusals) (e : Error) (before after : ℕ) where
   byte_wrong : (known l : Option (List ℕ)) (n : ℕ) → Consumes known l (n ∷ []) → P before after (prepend_known (canon_head (Whole (pos n))) l) e
-      → RefusedIn true P before after known e
-  byte_wrong None l n t p = tt
+      → RefusedByte P before after known e
+  byte_wrong None l n t p = inr (_, p)
   byte_wrong (Some xs) None n t p = absurd t
   byte_wrong (Some []) (Some ys) n t p = absurd (cc)
-  byte_wrong (Some (b ∷ xs)) (Some ys) n t p = λ _.
+  byte_wrong (Some (b ∷ xs)) (Some ys) n t p =
       let first : n ≡ b = cc in
       let following : ys ≡ xs = cc in
       rw (first, following) at p
 
-  byte_missing : (known : Option (List ℕ)) → (after ≡ before → IsDataEnd e × IsAtEnd known) → RefusedIn true P before after known e
-  byte_missing None h = tt
-  byte_missing (Some []) h = λ k. (h k).0
-  byte_missing (Some (b ∷ xs)) h = λ k. let z = (h k).1 in absurd (cc)
+  byte_missing : (known : Option (List ℕ)) → IsDataEnd e → IsAtEnd known → RefusedByte P before after known e
+  byte_missing None d n = inl d
+  byte_missing (Some []) d n = d
+  byte_missing (Some (b ∷ xs)) d n = absurd (cc)
 
 data_end_no_memory : (e : Error) → IsDataEnd e → e ≢ OutOfMemory
 data_end_no_memory e d q = subst IsDataEnd q d
 
 module _ {R C : Type 0} (g : Ghosts R) (P : Refusals) (e : Error) (old : Deserializer R C) (clean : old.kept ≡ Nothing) where
-  -- the bytes ended
-  pub number_ended : (after : ℕ) → (after ≡ faults_of g old → IsDataEnd e) → Explains e (faults_of g old) after (IsAtEnd (g.ahead old.reader))
+  -- the bytes ended, or the source had a fault
+  pub number_ended : (after : ℕ) → UnlessFault (faults_of g old) after e (IsDataEnd e) → Explains e (faults_of g old) after (IsAtEnd (g.ahead old.reader))
       → RefusedIn true P (faults_of g old) after (left g old) e
-  number_ended after d n = rw (bare g old clean) (byte_missing P e (faults_of g old) after (g.ahead old.reader) (λ k. (d k, n (data_end_no_memory e (d k)) k)))
+  number_ended after u n = rw (bare g old clean) (fault_or (faults_of g old) after e
+      (λ k. let d = u.0 k in byte_missing P e (faults_of g old) after (g.ahead old.reader) d (n (data_end_no_memory e d) k), u.1))
 
   -- a byte was taken, and as a number it was refused
   pub number_wrong : (mid part : Deserializer R C) (k : KeepsByte g old mid) → part.reader ≡ mid.reader → part.kept ≡ mid.kept
@@ -130,4 +132,4 @@ module _ {R C : Type 0} (g : Ghosts R) (P : Refusals) (e : Error) (old : Deseria
   number_wrong mid part k r q s after p =
       let p' = subst (λ z. P z after (prepend_known (canon_head (Whole (pos k.byte))) (g.ahead mid.reader)) e) s
       (subst (λ z. P (faults_of g part) after z e) (part_left g old mid part clean k r q) p) in
-      rw (bare g old clean) (byte_wrong P e (faults_of g old) after (g.ahead old.reader) (g.ahead mid.reader) k.byte k.taken p')
+      rw (bare g old clean) (inr (byte_wrong P e (faults_of g old) after (g.ahead old.reader) (g.ahead mid.reader) k.byte k.taken p'))

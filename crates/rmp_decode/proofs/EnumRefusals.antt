@@ -14,17 +14,17 @@ use Rattle.rmp_decode.specs.declared.error.Error.TheVariants.{Syntax}
 use Rattle.rmp_decode.specs.declared.text.Text.TheVariants.{InvalidType}
 use Rattle.rmp_decode.proofs.Settings.{setting_same}
 
-module _ {R C : Type 0} (g : Ghosts R) (human : C → Bool) (lends : Bool) (names : List (List ℕ)) (cs : List Choice) (old new last : Deserializer R C)
+module _ {R C : Type 0} (g : Ghosts R) (human : Bool) (lends : Bool) (names : List (List ℕ)) (cs : List Choice) (old new last : Deserializer R C)
     (e : Error)
     (same : last ≡ new) where
   -- how a reader refuses an enum that was in one state and is in another then
   abbrev Refused : Deserializer R C → Type 0
-  Refused d = old.failed ≡ false → RefusesEnum names cs (setting_of (human old.config) lends old) (faults_of g old) (faults_of g d) (left g old) e
+  Refused d = old.failed ≡ false → RefusesEnum names cs (setting_of human lends old) (faults_of g old) (faults_of g d) (left g old) e
 
   -- there was no variant
   pub enum_unopened : FailsToOpenVariant g names old new e → Refused last
   unfolding RefusesEnum
-  enum_unopened f = rw same (λ o. inl (f.named o (human old.config) lends))
+  enum_unopened f = rw same (λ o. inl (f.named o human lends))
 
   module _ (n : ℕ) (v : Variant R C) (o : OpensVariant g names n old v) where
     alone_wrong : v.bare ≡ true → (choice_at cs n).alone e → Refused new
@@ -45,13 +45,13 @@ module _ {R C : Type 0} (g : Ghosts R) (human : C → Bool) (lends : Bool) (name
           },
         ))
 
-    after_name : v.bare ≡ false → PartRefused g (human v.de.now.config) lends ((choice_at cs n).content) (max 1 v.inner) v.de.now new e → Refused new
+    after_name : v.bare ≡ false → PartRefused g human lends ((choice_at cs n).content) (max 1 v.inner) v.de.now new e → Refused new
     unfolding RefusesEnum
     after_name b h =
         let t = subst (λ z. TakesNameOf g names n z old v.de.now v.inner) b o.name in
         let P = (choice_at cs n).content in
-        let s = setting_same human lends v.de.now old (max 1 v.inner) (max 1 v.inner) o.stays.config o.stays.strict refl in
-        let i = inside (setting_of (human old.config) lends old) (max 1 v.inner) in
+        let s = setting_same human lends v.de.now old (max 1 v.inner) (max 1 v.inner) o.stays.strict refl in
+        let i = inside (setting_of human lends old) (max 1 v.inner) in
         let w1 = subst (λ z. P z (faults_of g v.de.now) (faults_of g new) (left g v.de.now) e) s h in
         let w2 = subst (λ z. P i z (faults_of g new) (left g v.de.now) e) o.faults_same w1 in
         λ _. inr (inr (record {
@@ -89,11 +89,11 @@ module _ {R C : Type 0} (g : Ghosts R) (human : C → Bool) (lends : Bool) (name
 
     -- the variant at the place has no content, and such was there
     pub unit_wrong : {A : Type 0} → (v.bare ≡ true → ⊥ × A)
-        → (v.bare ≡ false → PartRefused g (human v.de.now.config) lends ((choice_at cs n).content) (max 1 v.inner) v.de.now new e) → Refused last
+        → (v.bare ≡ false → PartRefused g human lends ((choice_at cs n).content) (max 1 v.inner) v.de.now new e) → Refused last
     unit_wrong f h = by_bare (λ b. absurd (f b).0) (λ b. after_name b (h b))
 
     -- it has content, which isn't there or is refused
     pub content_wrong : {V A : Type 0} → (e ≡ Syntax InvalidType → (choice_at cs n).alone e)
         → (v.bare ≡ true → (◌≡◌ {A = Result V Error} (Err e) (Err (Syntax InvalidType))) × A)
-        → (v.bare ≡ false → PartRefused g (human v.de.now.config) lends ((choice_at cs n).content) (max 1 v.inner) v.de.now new e) → Refused last
+        → (v.bare ≡ false → PartRefused g human lends ((choice_at cs n).content) (max 1 v.inner) v.de.now new e) → Refused last
     content_wrong wanted f h = by_bare (λ b. alone_wrong b (wanted (let p = (f b).0 in cc))) (λ b. after_name b (h b))

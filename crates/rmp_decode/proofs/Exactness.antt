@@ -1,30 +1,6 @@
 -- Which error comes where one head is wanted.
-use Rattle.std.proofs.Common.{
-  ◌≡◌,
-  ◌∙◌,
-  sym,
-  ap,
-  subst,
-  refl,
-  ℕ,
-  pos,
-  negsuc,
-  ◌<◌,
-  ◌≤◌,
-  arith,
-  List,
-  [],
-  ◌∷◌,
-  ◌++◌,
-  Option,
-  None,
-  Some,
-  IfSome,
-  nat_lt,
-  Bool,
-  true,
-  false,
-}
+use Rattle.std.proofs.Common.{◌≡◌, ◌∙◌, sym, ap, subst, refl, ℕ, pos, negsuc, ◌<◌, ◌≤◌, arith, List, [], ◌∷◌, ◌++◌, Option, None, Some, IfSome}
+use Rattle.std.proofs.Common.{nat_lt, nat_eq, ◌⊎◌, Bool, true, false}
 use Rattle.std.proofs.Common.{inl, inr}
 use Rattle.std.proofs.lemmas.Bool.{cases_lt, lt-ltb, le-ltb}
 use Rattle.std.specs.Io.KnownBytes.{Consumes, prepend_known}
@@ -41,7 +17,7 @@ use Rattle.rmp_wire.specs.Reading.{NoHead, FailsNext}
 use Rattle.rmp_wire.specs.Taking.{byte_of, marker_of}
 use Rattle.rmp_wire.proofs.Heads.{heads_differ, marker_pos}
 use Rattle.rmp_wire.proofs.Strict.{any_width, canon_in, heads_differ_as}
-use Rattle.rmp_decode.specs.Exact.{BeginsWith, BeginsWithNone, OtherWidth, Ends, TellsFault, UnlessFault, RefusesExactly, RefusesBy, EndsExactly}
+use Rattle.rmp_decode.specs.Exact.{BeginsWith, BeginsWithNone, OtherWidth, Ends, TellsFault, FaultTold, UnlessFault, RefusesExactly, RefusesBy, EndsExactly}
 use Rattle.rmp_decode.specs.Law.{LeavesNone}
 use Rattle.rmp_decode.specs.ReadErrors.{error_of}
 use Rattle.rmp_decode.specs.declared.error.Error.{Error}
@@ -104,6 +80,14 @@ none_told before after e same = record { counts = inl same; told = λ n. absurd 
 
 pub no_fault : {P : Type 0} (before after : ℕ) (e : Error) → after ≡ before → P → UnlessFault before after e P
 no_fault before after e same p = (λ _. p, none_told before after e same)
+
+-- it had a fault or none
+pub fault_or : {P : Type 0} (before after : ℕ) (e : Error) → UnlessFault before after e P → FaultTold before after e ⊎ P
+fault_or {P} before after e u = go (nat_eq after before) refl
+  where
+    go : (b : Bool) → nat_eq after before ≡ b → FaultTold before after e ⊎ P
+    go true q = inr (u.0 (grind (arith, q)))
+    go false q = inl (λ z. absurd (grind (arith, q, z)), u.1)
 
 pub exact_head : (s : Bool) (table : Marker → Head → Error) (before after : ℕ) (known : Option (List ℕ)) (m : Marker) (h : Head) (e : Error)
     → after ≡ before → IfSome known (BeginsWith s m h) → e ≡ table m h → RefusesExactly s table before after known e

@@ -1,26 +1,23 @@
 -- What a function that an access to the fields of a struct calls makes of a value.
 use Rattle.std.proofs.Common.{◌≡◌, ◌∙◌, sym, ap, subst, refl, ◌≤◌, arith, inl, inr, Bool, true, false, length, Result, Ok, Err, Some, OnOk, MatchResult}
 use Rattle.std.specs.Fn.{FnOnceReturnsAtMut}
-use Rattle.std.specs.Io.KnownBytes.{IsAtEnd}
+use Rattle.rmp_wire.specs.declared.error.IoFault.{IoFault}
 use Rattle.rmp_wire.specs.declared.source.Source.{Ghosts}
 use Rattle.rmp_wire.specs.Msg.{Msg}
-use Rattle.rmp_decode.specs.Exact.{IsDataEnd}
 use Rattle.rmp_decode.specs.FieldAccess.{begun, IsStructOpen, SameStruct, as_map, as_seq, as_element, FieldRead, FieldReadAs}
-use Rattle.rmp_decode.specs.FieldAccess.{TakesField, TakesFieldAs, FailsField, FailsFieldAs, ValueRefused, ValueRefusedAs}
-use Rattle.rmp_decode.specs.Law.{Explains, Lawful}
+use Rattle.rmp_decode.specs.FieldAccess.{TakesField, TakesFieldAs, FailsField, FailsFieldAs}
+use Rattle.rmp_decode.specs.Law.{Lawful}
 use Rattle.rmp_decode.specs.Maps.{TakesValue}
 use Rattle.rmp_decode.specs.Names.{bytes_of}
-use Rattle.rmp_decode.specs.Refusing.{Setting, Refusals, RefusesAs}
 use Rattle.rmp_decode.specs.Seq.{TakesElement}
-use Rattle.rmp_decode.specs.State.{faults_of, Stays}
-use Rattle.rmp_decode.specs.With.{Reading, Lends, OffersPart, PartGiven, part_reader}
+use Rattle.rmp_decode.specs.With.{Reading, Lends, Offers, OffersPart, PartGiven, part_reader}
 use Rattle.rmp_decode.specs.declared.deserializer.Deserializer.{Deserializer}
 use Rattle.rmp_decode.specs.declared.access.field_access.FieldAccess.{FieldAccess}
 use Rattle.rmp_decode.specs.declared.deserializer.Kept.TheVariants.{Nothing}
 use Rattle.rmp_decode.specs.declared.error.Error.{Error}
+use Rattle.rmp_decode.specs.declared.error.Error.TheVariants.{InvalidDataRead}
 use Rattle.rmp_decode.proofs.FieldAccesses.{seq_open, some_owed}
 use Rattle.rmp_decode.proofs.MapWiths.{value_taken, value_fails}
-use Rattle.rmp_decode.proofs.PartErrors.{value_named, element_named}
 use Rattle.rmp_decode.proofs.ElementWiths.{with_taken, with_refused}
 
 answered : {X : Type 0} (r : Result X Error) → MatchResult r (λ x. as_element r ≡ Ok (Some x)) (λ e. as_element r ≡ Err e)
@@ -33,37 +30,35 @@ on_element (Err e) f a = tt
 
 module _ {F R C X : Type 0} (g : Ghosts R) (once : Reading F R C X) (f : F) (old new : FieldAccess R C) (o : IsStructOpen old) where
   -- it was offered to f
-  pub field_given : (mid : FieldAccess R C) → old.owes ≡ true → SameStruct old mid → OffersPart g old.bytes old.de.now mid.de.now → mid.met ≡ old.met
-      → mid.left ≡ old.left → SameStruct mid new → new.met ≡ mid.met → new.left ≡ mid.left → (r : Result X Error) → OnOk r (new.owes ≡ false)
-      → PartGiven once f old.inner mid.de.now new.de.now r → FieldRead g once f old new r
-  field_given mid w same offers p q also n s r u t = record { by = go old.is_map refl; met = n ∙ p }
+  pub field_given : (from : Deserializer R C) → old.owes ≡ true → OffersPart g old.bytes old.de.now from → SameStruct old new → new.met ≡ old.met
+      → new.left ≡ old.left → (r : Result X Error) → OnOk r (new.owes ≡ false) → PartGiven once f old.inner from new.de.now r → FieldRead g once f old new r
+  field_given from w offers same n s r u t = record { by = go old.is_map refl; met = n }
     where
       go : (b : Bool) → old.is_map ≡ b → FieldReadAs b g once f old new r
       go true m = record {
-        part = subst (λ z. PartGiven once f old.inner z new.de.now r) (subst (λ b. OffersPart g b old.de.now mid.de.now) (o.pairs m) offers) t;
-        left = s ∙ q;
+        part = subst (λ z. PartGiven once f old.inner z new.de.now r) (subst (λ b. OffersPart g b old.de.now from) (o.pairs m) offers) t;
+        left = s;
         owes = u;
-        count = also.count ∙ same.count;
-        inner = also.inner ∙ same.inner;
+        count = same.count;
+        inner = same.inner;
       }
       go false m = inl (record {
-        from = mid.de.now;
+        from = from;
         offers = offers;
         given = r;
         part = t;
         answers = answered r;
-        fewer = on_element r (λ x. let a = ap begun w in let b = ap begun x in omega (arith, a, b, s, q)) u;
+        fewer = on_element r (λ x. let a = ap begun w in let b = ap begun x in omega (arith, a, b, s)) u;
       })
 
   -- the bytes ended before it
-  pub field_ended : old.bytes ≡ true → Stays g old.de.now new.de.now → new.met ≡ old.met → (e : Error)
-      → Explains e (faults_of g old.de.now) (faults_of g new.de.now) (IsAtEnd (g.ahead old.de.now.reader))
-      → (faults_of g new.de.now ≡ faults_of g old.de.now → IsDataEnd e) → FieldRead g once f old new (Err e)
-  field_ended y s n e k d = record { by = go old.is_map refl; met = n }
+  pub field_ended : (fault : IoFault) → Offers g old.bytes old.de.now new.de.now (Err fault) → new.met ≡ old.met
+      → FieldRead g once f old new (Err (InvalidDataRead fault))
+  field_ended fault k n = record { by = go old.is_map refl; met = n }
     where
-      go : (b : Bool) → old.is_map ≡ b → FieldReadAs b g once f old new (Err e)
-      go true m = absurd (let z = o.pairs m in cc)
-      go false m = inr (record { bytes = y; error = e; answers = refl; stays = s; err = k; end = d })
+      go : (b : Bool) → old.is_map ≡ b → FieldReadAs b g once f old new (Err (InvalidDataRead fault))
+      go true m = absurd (let z = o.pairs m in let y = k.bytes in cc)
+      go false m = inr (record { bytes = k.bytes; error = InvalidDataRead fault; answers = refl; stays = k.stays; err = k.err; end = k.end })
 
   -- a map's values are lent as they are
   pub lent_value : old.is_map ≡ true → Lends g (as_seq old) (part_reader old.de.now old.inner)
@@ -104,14 +99,3 @@ module _ {F R C X : Type 0} (g : Ghosts R) (once : Reading F R C X) (f : F) (old
           go true m h = value_fails g once f reads (as_map old) (as_map new) (λ rest gave c. law _ rest gave (lent_value m) c) e h
           go false m h = with_refused g once f reads (as_seq old) (as_seq new) (seq_open old o)
               (record { count = same.count; inner = same.inner; bytes = same.bytes }) law e (some_owed old o w) h
-
-      -- as f refused it
-      pub field_named : (human : C → Bool) (lends : Bool) (P : Setting → Refusals)
-          → ((d rest : Deserializer R C) (gave : Result X Error) → Lends g (as_seq old) d → FnOnceReturnsAtMut once f d gave rest
-          → RefusesAs g (human d.config) lends P d rest gave) → ValueRefused g (human old.de.now.config) lends P old new e
-      field_named human lends P which = go old.is_map refl t.by
-        where
-          go : (b : Bool) → old.is_map ≡ b → FieldReadAs b g once f old new (Err e) → ValueRefusedAs b g (human old.de.now.config) lends P old new e
-          go true m h = value_named g once f human lends reads P (as_map old) (as_map new) (λ rest gave c. law _ rest gave (lent_value m) c)
-              (λ rest gave c. which _ rest gave (lent_value m) c) e h
-          go false m h = element_named g once f human lends reads P (as_seq old) (as_seq new) (seq_open old o) law which e h

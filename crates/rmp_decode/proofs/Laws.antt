@@ -8,6 +8,7 @@ use Rattle.rmp_wire.specs.Msg.{Msg, depth}
 use Rattle.rmp_wire.specs.Spelling.{head_of}
 use Rattle.rmp_decode.specs.State.{left, faults_of, room_of, Stays}
 use Rattle.rmp_decode.specs.Law.{Refuses, Readable, Lawful, Explains, ReadsHead}
+use Rattle.rmp_decode.specs.Opening.{FailsToOpenAs}
 use Rattle.rmp_decode.specs.declared.deserializer.Deserializer.{Deserializer}
 use Rattle.rmp_decode.specs.declared.error.Error.{Error}
 use Rattle.rmp_decode.proofs.NothingAccepted.{refuses_none, refuses_other, refuses_head, refuses_narrower}
@@ -50,11 +51,20 @@ module _ {R C V : Type 0} (g : Ghosts R) (reads : Msg → V → Type 0) (old new
       → Lawful g reads old new (Err e)
   refused_head p e h n = refused e h.fresh h.failed h.stays (λ _ _. refuses_head _ _ _ _ (left g new) h.ok.bytes p.1 h.ok.takes h.ok.is_head n)
 
-  -- the message that was there isn't wanted
-  pub refused_leaf : (p : Marker × Head) (e : Error) (m : Msg) → ReadsHead g old new (Ok p)
-      → ((b : List ℕ) → heads_of old.strict p.1 b → SpellsAs old.strict b m) → (Readable reads m → ⊥) → Lawful g reads old new (Err e)
-  refused_leaf p e m h s n = refused e h.fresh h.failed h.stays
-      (λ _ _. refuses_other _ _ _ _ (left g new) h.ok.bytes m h.ok.takes (s h.ok.bytes h.ok.is_head) n)
+-- no message could be opened that is wanted
+pub unopened : {R C V : Type 0} (g : Ghosts R) (reads : Msg → V → Type 0) (Wants : Msg → Type 0) (table : ℕ → Marker → Head → Error → Type 0)
+    (old new : Deserializer R C) (e : Error) → FailsToOpenAs g Wants table old new e → ((m : Msg) → Readable reads m → Wants m)
+    → Lawful g reads old new (Err e)
+unopened g reads Wants table old new e f w = record {
+  ok = tt;
+  ready = tt;
+  clean = tt;
+  sound = tt;
+  failed = f.failed;
+  before = f.before;
+  stays = f.stays;
+  err = λ o n k. refuses_narrower (SpellsAs old.strict) Wants _ _ _ w (f.err o n k);
+}
 
 -- the head is the whole message
 pub answered_leaf : {R C V : Type 0} (g : Ghosts R) (reads : Msg → V → Type 0) (old mid new : Deserializer R C) (p : Marker × Head) (m : Msg) (v : V)

@@ -284,17 +284,17 @@ module _ (table : List ℕ) (e : says 256 0 table ≡ true) (b : ℕ) (strict : 
 -- ---- leaves one after another
 
 pub passes_none : (strict : Bool) (n : ℕ) → PassesLeaves strict n n []
-passes_none strict n = λ lends room counts s. leads_none strict (UnpassedFor lends strict) room (n ∷ counts)
+passes_none strict n = λ lends top room counts s. leads_none strict (UnpassedFor lends top strict) room (n ∷ counts)
 
 -- one more
 passes_by : (strict : Bool) (passed x : List ℕ) (n w : ℕ) → PassesLeaves strict n w passed → 0 < w → SpellsLeaf strict x
     → PassesLeaves strict n (w - 1) (passed ++ x)
 passes_by strict passed x n w p some leaf =
     let one : suc (w - 1) ≡ w = omega (arith, some) in
-    λ lends room counts s.
-    let wrong : ℕ → Error → List ℕ → Type 0 = UnpassedFor lends strict in
+    λ lends top room counts s.
+    let wrong : ℕ → Error → List ℕ → Type 0 = UnpassedFor lends top strict in
     let l = leads_message strict wrong room (w - 1) counts leaf.tree x leaf.spelled (omega (arith, leaf.flat, s)) in
-    leads_then strict wrong room (n ∷ counts) room (w ∷ counts) room ((w - 1) ∷ counts) passed x (p lends room counts s)
+    leads_then strict wrong room (n ∷ counts) room (w ∷ counts) room ((w - 1) ∷ counts) passed x (p lends top room counts s)
     (subst (λ z. Leads strict wrong room (z ∷ counts) room ((w - 1) ∷ counts) x) one l)
 
 taken_more : (bytes : List ℕ) (at size : ℕ) → at ≤ length bytes → size ≤ length (drop at bytes)
@@ -430,7 +430,7 @@ module _ {R C : Type 0} (g : Ghosts R) where
   leaf_skipped old new fresh clean k =
       let room : ℕ = room_of old in
       let some : 0 < room = omega arith in
-      let l = k.passes false room [] some in
+      let l = k.passes false room room [] some in
       let s : SpellsOpen old.strict room (1 ∷ []) (k.bytes ++ []) = l.closes []
       (record { first = []; second = []; is_first = record { trees = no_items; spelled = refl; many = refl; fits = some }; is_second = refl; is_whole = refl }) in
       let m = s.is_first in

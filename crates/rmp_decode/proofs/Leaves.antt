@@ -1,5 +1,5 @@
 -- Messages that are their head.
-use Rattle.std.proofs.Common.{◌≡◌, ℕ, List, refl, sym, ◌∙◌, ap, subst, Bool, false, Ok, Err, Option, None, Some}
+use Rattle.std.proofs.Common.{◌≡◌, ◌≢◌, ℕ, List, refl, sym, ◌∙◌, ap, subst, Bool, false, Ok, Err, Option, None, Some}
 use Rattle.rmp_wire.specs.declared.head.Head.{Head}
 use Rattle.rmp_wire.specs.declared.head.Head.TheVariants as head
 use Rattle.rmp_wire.specs.declared.head.Head.TheVariants.{Nil, Truth, Whole, F32Bits, F64Bits, Text, Bin, Array, Map, Ext}
@@ -9,11 +9,15 @@ use Rattle.rmp_wire.specs.Canonical.{heads_of, SpellsAs}
 use Rattle.rmp_wire.specs.Msg.{Msg, nil, truth, whole, float32, float64, depth}
 use Rattle.rmp_wire.specs.Spelling.{head_of}
 use Rattle.rmp_decode.specs.Kinds.{Finds}
-use Rattle.rmp_decode.specs.Law.{Readable, Lawful, ReadsHead}
-use Rattle.rmp_decode.specs.Leaves.{IsAlone, HoldsAs, Holds}
+use Rattle.rmp_decode.specs.Law.{Lawful, ReadsHead}
+use Rattle.rmp_decode.specs.Leaves.{IsAlone, HoldsAs, HoldsNone, Holds, ReadsLeaf}
+use Rattle.rmp_decode.specs.Consumed.{no_payload}
 use Rattle.rmp_decode.specs.declared.deserializer.Deserializer.{Deserializer}
 use Rattle.rmp_decode.specs.declared.error.Error.{Error}
-use Rattle.rmp_decode.proofs.Laws.{refused_head, refused_leaf, answered_leaf}
+use Rattle.rmp_decode.specs.declared.error.Error.TheVariants.{OutOfMemory}
+use Rattle.rmp_decode.proofs.Consumed.{leaves_head, leaves_none}
+use Rattle.rmp_decode.proofs.Exactness.{exact_head, exact_none}
+use Rattle.rmp_decode.proofs.Laws.{refused_head, refused_none, answered_leaf}
 
 -- a kind of message that is its head
 pub record Leaf {A : Type 0} (make : A → Msg) (heads : A → Head) : Type 0 where
@@ -44,14 +48,6 @@ module _ {R C A V : Type 0} {make : A → Msg} {heads : A → Head} (leaf : Leaf
       → Lawful g reads old new (Ok v)
   leaf_read new a v e q r = answered_leaf g reads old mid new p (make a) v h q
       (λ b i. leaf.spells old.strict a b (subst (λ k. heads_of old.strict k b) e i)) (leaf.flat a) r
-
-  -- another kind was there
-  pub leaf_missed : (e : Error) → ((a : A) → p.1 ≡ heads a → ⊥) → ((m : Msg) → Readable reads m → (a : A) × (m ≡ make a)) → Lawful g reads old mid (Err e)
-  leaf_missed e n f = refused_head g reads old mid p e h (λ m r i. let a = f m r in n a.0 (sym i ∙ ap head_of a.1 ∙ leaf.is a.0))
-
-  -- it was there, and isn't read
-  pub leaf_refused : (a : A) (e : Error) → p.1 ≡ heads a → (Readable reads (make a) → ⊥) → Lawful g reads old mid (Err e)
-  leaf_refused a e i n = refused_leaf g reads old mid p e (make a) h (λ b k. leaf.spells old.strict a b (subst (λ j. heads_of old.strict j b) i k)) n
 
 -- what a head of that kind holds
 pub holds_found : {A : Type 0} {make : A → Msg} {heads : A → Head} → Leaf make heads → (h : Head) (found : Option A) → Finds (λ k a. k ≡ heads a) h found
@@ -91,3 +87,29 @@ pub held_read : {R C V : Type 0} (g : Ghosts R) (reads : Msg → V → Type 0) (
     → (new : Deserializer R C) (v : V) → HoldsAs reads p.1 v → new ≡ record mid { failed = false } → Lawful g reads old new (Ok v)
 held_read g reads old mid p h new v a q =
     answered_leaf g reads old mid new p a.tree v h q (λ b i. alone_spells old.strict p.1 a.tree b a.alone i) (alone_flat p.1 a.tree a.alone) a.value
+
+-- ---- what happened, each once
+
+module _ {R C V : Type 0} (g : Ghosts R) (reads : Msg → V → Type 0) (table : Marker → Head → Error) (old mid : Deserializer R C) where
+  -- no head was there, or a read had failed before
+  pub leaf_none : (e : Error) → ReadsHead g old mid (Err e) → ReadsLeaf g reads table old mid (Err e)
+  leaf_none e h = record {
+    law = refused_none g reads old mid e h;
+    exact = λ o. exact_none _ _ _ _ _ e (h.ends o);
+    taken = λ o. leaves_none _ no_payload _ _ _ _ e (h.ends o) (h.leaves o);
+    memory = h.memory;
+  }
+
+  module _ (p : Marker × Head) (h : ReadsHead g old mid (Ok p)) where
+    -- the head isn't one that is read
+    pub leaf_other : (e : Error) → HoldsNone reads p.1 → e ≡ table p.0 p.1 → e ≢ OutOfMemory → ReadsLeaf g reads table old mid (Err e)
+    leaf_other e n i y = record {
+      law = refused_head g reads old mid p e h n;
+      exact = λ _. exact_head _ _ _ _ _ p.0 p.1 e h.sound h.marked i;
+      taken = λ _. leaves_head g no_payload old mid p e h (λ w. w);
+      memory = y;
+    }
+
+    -- it is
+    pub leaf_held : (v : V) → HoldsAs reads p.1 v → ReadsLeaf g reads table old (record mid { failed = false }) (Ok v)
+    leaf_held v a = record { law = held_read g reads old mid p h _ v a refl; exact = λ _. tt; taken = λ _. tt; memory = tt }

@@ -1,7 +1,6 @@
 pub mod Allowed
 pub mod AnyReads
 pub mod Anything
-pub mod ArrayRefusals
 pub mod Arrays
 pub mod Ascending
 pub mod BufferErrors
@@ -10,6 +9,7 @@ pub mod ByteParts
 pub mod Characters
 pub mod ContentErrors
 pub mod Consumed
+pub mod ContentOpenings
 pub mod Contents
 pub mod Defaults
 pub mod ElementWiths
@@ -18,7 +18,7 @@ pub mod Exactness
 pub mod ExtHeads
 pub mod Faults
 pub mod FieldAccesses
-pub mod FieldRefusals
+pub mod FieldReads
 pub mod FieldRows
 pub mod FieldWiths
 pub mod Fields
@@ -31,7 +31,7 @@ pub mod LeftParts
 pub mod LeafTable
 pub mod Leaves
 pub mod ListRefusals
-pub mod MapRefusals
+pub mod MapReads
 pub mod MapWiths
 pub mod Maps
 pub mod Meeting
@@ -46,7 +46,6 @@ pub mod Offered
 pub mod Opening
 pub mod Options
 pub mod Orders
-pub mod PartErrors
 pub mod Payloads
 pub mod Places
 pub mod RowEnds
@@ -60,14 +59,11 @@ pub mod SkipLoop
 pub mod SourceReads
 pub mod Steps
 pub mod StructRuns
-pub mod StructVariants
 pub mod Structs
 pub mod Tuples
 pub mod Units
 pub mod VariantNames
-pub mod VariantSeqs
 pub mod Variants
-pub mod VariantsAhead
 pub mod WantedNext
 pub mod Whole
 pub mod Wide

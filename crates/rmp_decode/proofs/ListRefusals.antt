@@ -132,12 +132,12 @@ module _ (s : Setting) where
       })
     ]
 
-module _ {R C : Type 0} (g : Ghosts R) (human : C → Bool) (lends : Bool) (old : Deserializer R C) (start : SeqAccess R C) (o : Opens g old start)
+module _ {R C : Type 0} (g : Ghosts R) (human : Bool) (lends : Bool) (old : Deserializer R C) (start : SeqAccess R C) (o : Opens g old start)
     (after : ℕ) (e : Error) where
   -- after the head that was taken
   pub after_head : (P : Bool → Setting → ℕ → Option (List ℕ) → Error → Type 0)
-      → P start.bytes (inside (setting_of (human old.config) lends old) (inner_of start)) start.left (left g start.de.now) e
-      → Opened (setting_of (human old.config) lends old) P (left g old) e
+      → P start.bytes (inside (setting_of human lends old) (inner_of start)) start.left (left g start.de.now) e
+      → Opened (setting_of human lends old) P (left g old) e
   after_head P p = record {
     is_bytes = start.bytes;
     inner = inner_of start;
@@ -152,13 +152,13 @@ module _ {R C : Type 0} (g : Ghosts R) (human : C → Bool) (lends : Bool) (old 
 
   -- one of the elements was refused
   pub parts_wrong : (ps : List Part) (now : SeqAccess R C) → after ≡ faults_of g now.de.now
-      → PartsRefused g (human start.de.now.config) lends ps start now e
-      → Opened (setting_of (human old.config) lends old) (λ b i. RefusesParts b i (faults_of g old) after ps (Excess (length ps))) (left g old) e
+      → PartsRefused g human lends ps start now e
+      → Opened (setting_of human lends old) (λ b i. RefusesParts b i (faults_of g old) after ps (Excess (length ps))) (left g old) e
   parts_wrong ps now q h =
       let h' = after_opened g human lends old start now o after q
       (λ s a z. RefusesParts start.bytes s a z ps no_refusal start.left (left g start.de.now) e) h in
       after_head (λ b i. RefusesParts b i (faults_of g old) after ps (Excess (length ps)))
-      (whatever (inside (setting_of (human old.config) lends old) (inner_of start)) start.bytes (faults_of g old) after e ps (Excess (length ps)) start.left
+      (whatever (inside (setting_of human lends old) (inner_of start)) start.bytes (faults_of g old) after e ps (Excess (length ps)) start.left
       (left g start.de.now) h')
 
   after_all : (i : Setting) → start.de.now.strict ≡ i.strict → inner_of start ≡ i.room → (ps : List Part) (mid : SeqAccess R C) (ms : Msgs)
@@ -174,9 +174,9 @@ module _ {R C : Type 0} (g : Ghosts R) (human : C → Bool) (lends : Bool) (old 
 
   -- all of them were read, and there are more
   pub parts_excess : (ps : List Part) (mid : SeqAccess R C) (ms : Msgs) → Run g start mid ms
-      → Held (inside (setting_of (human old.config) lends old) (inner_of start)) ps ms → count ms ≡ length ps → 0 < mid.left
+      → Held (inside (setting_of human lends old) (inner_of start)) ps ms → count ms ≡ length ps → 0 < mid.left
       → e ≡ LengthMismatch (mid.count - mid.left)
-      → Opened (setting_of (human old.config) lends old) (λ b i. RefusesParts b i (faults_of g old) after ps (Excess (length ps))) (left g old) e
+      → Opened (setting_of human lends old) (λ b i. RefusesParts b i (faults_of g old) after ps (Excess (length ps))) (left g old) e
   parts_excess ps mid ms r h c l q =
       after_head (λ b i. RefusesParts b i (faults_of g old) after ps (Excess (length ps)))
-      (after_all (inside (setting_of (human old.config) lends old) (inner_of start)) o.stays.strict refl ps mid ms r h c l q)
+      (after_all (inside (setting_of human lends old) (inner_of start)) o.stays.strict refl ps mid ms r h c l q)

@@ -1,31 +1,6 @@
 -- What the read of a map says, from what its opening, its keys, its values and its end say.
-use Rattle.std.proofs.Common.{
-  ◌≡◌,
-  ◌∙◌,
-  sym,
-  ap,
-  subst,
-  refl,
-  ℕ,
-  ◌+◌,
-  ◌<◌,
-  max,
-  arith,
-  List,
-  [],
-  ◌∷◌,
-  ◌++◌,
-  Bool,
-  true,
-  false,
-  cond,
-  Option,
-  None,
-  Some,
-  Ok,
-  Err,
-  append_assoc,
-}
+use Rattle.std.proofs.Common.{◌≡◌, ◌∙◌, sym, ap, subst, refl, ℕ, ◌+◌, ◌<◌, max, arith, List, [], ◌∷◌, ◌++◌, Bool, true, false, cond, Option, None}
+use Rattle.std.proofs.Common.{Some, Ok, Err, append_assoc}
 use Rattle.std.specs.BTreeMap.{insert_entry, is_at}
 use Rattle.std.specs.Cmp.{IsTotalOrder}
 use Rattle.std.specs.List.Sorted.{IsStrictlySortedBy}
@@ -37,34 +12,12 @@ use Rattle.std.proofs.KnownBytes.{Consumes-trans}
 use Rattle.rmp_wire.specs.declared.head.Head.TheVariants.{Map}
 use Rattle.rmp_wire.specs.declared.source.Source.{Ghosts}
 use Rattle.rmp_wire.specs.Canonical.{heads_of, SpellsAs}
-use Rattle.rmp_wire.specs.Msg.{
-  Msg,
-  nil,
-  truth,
-  whole,
-  float32,
-  float64,
-  text,
-  bin,
-  list,
-  map,
-  extension,
-  Msgs,
-  no_items,
-  item,
-  Pairs,
-  no_pairs,
-  pair,
-  count,
-  count_pairs,
-  depth,
-  depth_all,
-  depth_pairs,
-}
+use Rattle.rmp_wire.specs.Msg.{Msg, nil, truth, whole, float32, float64, text, bin, list, map, extension, Msgs, no_items, item, Pairs, no_pairs, pair}
+use Rattle.rmp_wire.specs.Msg.{count, count_pairs, depth, depth_all, depth_pairs}
 use Rattle.rmp_wire.specs.Spelling.{PairsSpelledBy, head_of}
 use Rattle.rmp_wire.proofs.Strict.{heads_differ_as}
 use Rattle.rmp_decode.specs.Law.{Refuses, Readable, Explains, Lawful}
-use Rattle.rmp_decode.specs.Maps.{OfMap, IsMap, ReadsPairs, Collects, map_inner, owed, to_come, as_row}
+use Rattle.rmp_decode.specs.Maps.{OfMap, IsMap, not_map, ReadsPairs, Collects, map_inner, owed, to_come, as_row}
 use Rattle.rmp_decode.specs.Maps.{IsMapOpen, OpensMap, FailsToOpenMap, TakesKey, TakesValue}
 use Rattle.rmp_decode.specs.Parts.{TakesPart, FailsPart}
 use Rattle.rmp_decode.specs.Seq.{SpellsRow, BeginsRow, RefusesRow, TakesElement, Run}
@@ -73,7 +26,7 @@ use Rattle.rmp_decode.specs.declared.deserializer.Deserializer.{Deserializer}
 use Rattle.rmp_decode.specs.declared.access.map.MapAccess.{MapAccess}
 use Rattle.rmp_decode.specs.declared.error.Error.{Error}
 use Rattle.rmp_decode.specs.declared.error.Error.TheVariants.{OutOfMemory}
-use Rattle.rmp_decode.proofs.Laws.{stays_refl, stays_then}
+use Rattle.rmp_decode.proofs.Laws.{stays_refl, stays_then, refused, unopened}
 use Rattle.rmp_decode.proofs.Orders.{entries_none, entries_more}
 use Rattle.rmp_decode.proofs.NothingAccepted.{refuses_narrower, same_head}
 use Rattle.rmp_decode.proofs.Rows.{push, append, rest_refused, element_refused, count_refused}
@@ -175,32 +128,17 @@ map_row_refused w Q outer room n (Some xs) (Some ys) b t i l r = λ a.
     let u = same_head _ a.tree (Map n) a.bytes b a.rest ys a.spelled i split in
     let fits = rw l at a.fits in
     r (inside_map w Q room n a.tree a.bytes a.rest ys a.holds a.spelled fits u.0
-    (λ c d e j. (heads_differ_as w (head_of a.tree) (Map n) d b (c ++ a.rest) ys j i (sym (append_assoc d c a.rest) ∙ ap (λ z. z ++ a.rest) (sym e) ∙ split)).2))
+    (λ c d e j. (heads_differ_as w (head_of a.tree) (Map n) d b (c ++ a.rest) ys j i
+    (sym (append_assoc d c a.rest) ∙ ap (λ z. z ++ a.rest) (sym e) ∙ split)).2))
 
 -- a value that reads the pairs
 readable_map : {V : Type 0} (Q : V → Pairs → Type 0) (m : Msg) → (v : V) × OfMap (Q v) m → OfMap (λ ps. (v : V) × Q v ps) m
-readable_map Q nil r = r.1
-readable_map Q (truth t) r = r.1
-readable_map Q (whole z) r = r.1
-readable_map Q (float32 n) r = r.1
-readable_map Q (float64 n) r = r.1
-readable_map Q (text s) r = r.1
-readable_map Q (bin s) r = r.1
-readable_map Q (list ms) r = r.1
 readable_map Q (map ps) r = r
-readable_map Q (extension tag s) r = r.1
+readable_map Q m r = r.1
 
 is_map : {V : Type 0} (Q : V → Pairs → Type 0) (m : Msg) → (v : V) × OfMap (Q v) m → OfMap (λ ps. Unit {0}) m
-is_map Q nil r = r.1
-is_map Q (truth t) r = r.1
-is_map Q (whole z) r = r.1
-is_map Q (float32 n) r = r.1
-is_map Q (float64 n) r = r.1
-is_map Q (text s) r = r.1
-is_map Q (bin s) r = r.1
-is_map Q (list ms) r = r.1
 is_map Q (map ps) r = tt
-is_map Q (extension tag s) r = r.1
+is_map Q m r = r.1
 
 -- ---- keys and values that were read
 
@@ -254,16 +192,7 @@ map_value g reads start mid now ms v r p t n = run_step g reads (as_row start) (
 
 module _ {R C V : Type 0} (g : Ghosts R) (Q : V → Pairs → Type 0) (old : Deserializer R C) where
   pub map_unopened : (last : Deserializer R C) (e : Error) → FailsToOpenMap g old last e → Lawful g (λ m v. OfMap (Q v) m) old last (Err e)
-  map_unopened last e f = record {
-    ok = tt;
-    ready = tt;
-    clean = tt;
-    sound = tt;
-    failed = f.failed;
-    before = f.before;
-    stays = f.stays;
-    err = λ o n k. refuses_narrower (SpellsAs old.strict) IsMap _ _ _ (is_map Q) (f.err o n k);
-  }
+  map_unopened last e f = unopened g (λ m v. OfMap (Q v) m) IsMap not_map old last e f (is_map Q)
 
   module _ (start mid : MapAccess R C) (o : OpensMap g old start) (last : Deserializer R C) where
     -- the map is whole
@@ -315,23 +244,16 @@ module _ {R C V : Type 0} (g : Ghosts R) (Q : V → Pairs → Type 0) (old : Des
           → Explains e (faults_of g mid.de.now) (faults_of g last)
           (RefusesRow (SpellsAs start.de.now.strict) (λ ks. Flat (λ ps. (v : V) × Q v ps) (append ms ks)) (map_inner start) (to_come mid)
           (left g mid.de.now)) → Lawful g (λ m v. OfMap (Q v) m) old last (Err e)
-      map_refused e s f x = record {
-        ok = tt;
-        ready = tt;
-        clean = tt;
-        sound = tt;
-        failed = f;
-        stays = stays_then g old start.de.now last o.stays (stays_then g start.de.now mid.de.now last r.stays s);
-        before = λ h. absurd (let p = o.fresh in cc);
-        err = λ _ n k.
-            let rest = x n (k ∙ sym o.faults_same ∙ sym r.faults_same) in
-            let row = rest_refused start.de.now.strict false (Flat (λ ps. (v : V) × Q v ps)) (map_inner start) (to_come mid) (start.left + start.left)
-            (left g start.de.now) (left g mid.de.now) ms r.bytes r.takes r.spelled (r.many ∙ settled start o.at_key) rest in
-            refuses_narrower (SpellsAs old.strict) (OfMap (λ ps. (v : V) × Q v ps)) _ _ _ (readable_map Q)
-            (map_row_refused old.strict (λ ps. (v : V) × Q v ps) (room_of old) (map_inner start) start.left (left g old) (left g start.de.now) o.head.bytes
-            o.head.takes o.head.is_head o.room (subst (λ z. RefusesRow (SpellsAs z) (Flat (λ ps. (v : V) × Q v ps)) (map_inner start)
-            (start.left + start.left) (left g start.de.now)) o.stays.strict row));
-      }
+      map_refused e s f x = refused g (λ m v. OfMap (Q v) m) old last e o.fresh f
+          (stays_then g old start.de.now last o.stays (stays_then g start.de.now mid.de.now last r.stays s))
+          (λ n k.
+          let rest = x n (k ∙ sym o.faults_same ∙ sym r.faults_same) in
+          let row = rest_refused start.de.now.strict false (Flat (λ ps. (v : V) × Q v ps)) (map_inner start) (to_come mid) (start.left + start.left)
+          (left g start.de.now) (left g mid.de.now) ms r.bytes r.takes r.spelled (r.many ∙ settled start o.at_key) rest in
+          refuses_narrower (SpellsAs old.strict) (OfMap (λ ps. (v : V) × Q v ps)) _ _ _ (readable_map Q)
+          (map_row_refused old.strict (λ ps. (v : V) × Q v ps) (room_of old) (map_inner start) start.left (left g old) (left g start.de.now) o.head.bytes
+          o.head.takes o.head.is_head o.room (subst (λ z. RefusesRow (SpellsAs z) (Flat (λ ps. (v : V) × Q v ps)) (map_inner start)
+          (start.left + start.left) (left g start.de.now)) o.stays.strict row)))
 
       -- memory was short
       pub map_unkept : last ≡ mid.de.now → Lawful g (λ m v. OfMap (Q v) m) old last (Err OutOfMemory)

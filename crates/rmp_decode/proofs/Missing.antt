@@ -1,5 +1,5 @@
 -- Which field is named that is missing.
-use Rattle.std.proofs.Common.{◌≡◌, sym, ap, subst, refl, arith, ℕ, suc, ◌<◌, length, Bool, true, false, List, [], ◌∷◌, Option, None, Some}
+use Rattle.std.proofs.Common.{◌≡◌, sym, subst, refl, arith, ℕ, suc, ◌<◌, length, Bool, true, false, List, [], ◌∷◌, Option, None, Some}
 use Rattle.std.proofs.Math.ListN.{get_or}
 use Rattle.std.specs.Borrow.{Bor}
 use Rattle.std.specs.Option.{option_map}

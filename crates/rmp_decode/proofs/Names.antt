@@ -1,39 +1,6 @@
 -- The names of fields, one after another.
-use Rattle.std.proofs.Common.{
-  ◌≡◌,
-  ◌∙◌,
-  sym,
-  ap,
-  refl,
-  inl,
-  inr,
-  ◌⊎◌,
-  arith,
-  ◌+◌,
-  ◌<◌,
-  ◌≤◌,
-  ℕ,
-  suc,
-  List,
-  [],
-  ◌∷◌,
-  drop,
-  length,
-  get_or,
-  cond,
-  true,
-  false,
-  Option,
-  None,
-  Some,
-  Bor,
-  Bool,
-  ℤ,
-  pos,
-  negsuc,
-  nat_lt,
-  nat_abs,
-}
+use Rattle.std.proofs.Common.{◌≡◌, ◌∙◌, sym, ap, refl, inl, inr, ◌⊎◌, arith, ◌+◌, ◌<◌, ◌≤◌, ℕ, suc, List, [], ◌∷◌, drop, length, get_or, cond, true}
+use Rattle.std.proofs.Common.{false, Option, None, Some, Bor, Bool, ℤ, pos, negsuc, nat_lt, nat_abs}
 use Rattle.std.specs.Int.Signed.{lt_z}
 use Rattle.std.specs.Option.{option_map}
 use Rattle.std.specs.Str.{bytes_eq}

@@ -1,40 +1,6 @@
 -- Options.
-use Rattle.std.proofs.Common.{
-  ◌≡◌,
-  ◌≢◌,
-  ◌⊎◌,
-  ◌∙◌,
-  ◌<◌,
-  ◌≤◌,
-  max,
-  sym,
-  ap,
-  subst,
-  refl,
-  ℕ,
-  pos,
-  nat_lt,
-  arith,
-  List,
-  [],
-  ◌∷◌,
-  ◌++◌,
-  length,
-  get_or,
-  append_assoc,
-  append-nil,
-  Option,
-  None,
-  Some,
-  IfSome,
-  Bool,
-  true,
-  false,
-  Ok,
-  Err,
-  inl,
-  inr,
-}
+use Rattle.std.proofs.Common.{◌≡◌, ◌≢◌, ◌⊎◌, ◌∙◌, ◌<◌, max, sym, ap, subst, refl, ℕ, pos, nat_lt, arith, List, [], ◌∷◌, ◌++◌}
+use Rattle.std.proofs.Common.{append_assoc, append-nil, Option, None, Some, IfSome, Bool, true, false, Ok, Err, inl, inr}
 use Rattle.std.specs.Prelude.{if◌then◌else◌}
 use Rattle.std.specs.Io.KnownBytes.{Consumes, IsAtEnd, Keeps, prepend_known}
 use Rattle.std.specs.declared.io.ErrorKind.TheVariants.{UnexpectedEof}
@@ -50,7 +16,8 @@ use Rattle.rmp_decode.specs.Exact.{IsMarkerEnd}
 use Rattle.rmp_decode.specs.declared.deserializer.Kept.{Kept}
 use Rattle.rmp_decode.specs.declared.deserializer.Kept.TheVariants.{Nothing, First, Number}
 use Rattle.rmp_decode.specs.declared.error.Error.TheVariants.{InvalidMarkerRead}
-use Rattle.rmp_decode.proofs.ContentErrors.{head_byte, same_front}
+use Rattle.rmp_decode.proofs.BufferedHeads.{bytes_consumed}
+use Rattle.rmp_decode.proofs.ContentErrors.{head_byte}
 use Rattle.rmp_decode.proofs.Contents.{bare}
 use Rattle.rmp_decode.proofs.HeadTaken.{kept_first}
 use Rattle.rmp_wire.specs.declared.head.Head.TheVariants.{Nil, Whole}
@@ -177,21 +144,10 @@ kept_byte n (Some x) (Some y) c = sym c
 marker_byte : (m : Marker) (n : ℕ) (a b : Option (List ℕ)) → TakesMarker m a b → n ≡ byte_of m → Consumes a b (n ∷ [])
 marker_byte m n a b t e = subst (λ k. Consumes a b (k ∷ [])) (sym (e ∙ ap byte_of t.is_marker ∙ byte_of-marker_of t.byte t.is_byte)) t.taken
 
--- the next byte is the one that was taken, or that is told
-front_byte : (b : ℕ) (front : List ℕ) (known k : Option (List ℕ)) → IsFront front known → 1 ≤ length front → b ≡ get_or front 0 0 → Skips 1 known k
-    → Consumes known k (b ∷ [])
-front_byte b front None k f l e c = tt
-front_byte b front (Some xs) None f l e c = absurd c.taken
-front_byte b [] (Some xs) (Some ys) f l e c = absurd (omega arith)
-front_byte b (x ∷ front) (Some xs) (Some ys) f l e c =
-    let same : c.bytes ≡ b ∷ [] = same_front c.bytes (b ∷ []) ys (front ++ f.0) (c.long ∙ refl) (sym c.taken ∙ f.1 ∙ ap (λ t. t ∷ (front ++ f.0)) (sym e)) in
-    subst (λ t. xs ≡ t ++ ys) same c.taken
-
-front_told : (b : ℕ) (front : List ℕ) (known : Option (List ℕ)) → IsFront front known → 1 ≤ length front → b ≡ get_or front 0 0 → b ≢ 0xc0 → known ≢ None
-    → ToldOther known
-front_told b front None f l e n t = absurd (t refl)
-front_told b [] (Some xs) f l e n t = absurd (omega arith)
-front_told b (x ∷ front) (Some xs) f l e n t = record { byte = b; following = front ++ f.0; is = f.1 ∙ ap (λ t. t ∷ (front ++ f.0)) (sym e); other = n }
+-- the next byte is told
+front_told : (b : ℕ) (front rest : List ℕ) (known : Option (List ℕ)) → IsFront front known → front ≡ b ∷ rest → b ≢ 0xc0 → known ≢ None → ToldOther known
+front_told b front rest None f e n t = absurd (t refl)
+front_told b front rest (Some xs) f e n t = record { byte = b; following = rest ++ f.0; is = f.1 ∙ ap (λ t. t ++ f.0) e; other = n }
 
 module _ {R C : Type 0} (g : Ghosts R) (old new : Deserializer R C) (fresh : old.failed ≡ false) (ready : new.failed ≡ false) (stays : Stays g old new)
     (sound : faults_of g new ≡ faults_of g old) where
@@ -215,10 +171,10 @@ module _ {R C : Type 0} (g : Ghosts R) (old new : Deserializer R C) (fresh : old
       (subst (λ b. Consumes (g.ahead old.reader) (g.ahead new.reader) (b ∷ [])) z (marker_byte m n _ _ t e)))
       (record { more = 0xc0 ∷ []; whole = rw k refl })
 
-  pub nil_front : (b : ℕ) (front : List ℕ) → old.kept ≡ Nothing → new.kept ≡ Nothing → IsFront front (g.ahead old.reader) → 1 ≤ length front
-      → b ≡ get_or front 0 0 → b ≡ 0xc0 → Skips 1 (g.ahead old.reader) (g.ahead new.reader) → Lawful g IsNil old new (Ok tt)
-  nil_front b front k q f l e z c = nil_taken q (rw (bare g old k, bare g new q)
-      (subst (λ t. Consumes (g.ahead old.reader) (g.ahead new.reader) (t ∷ [])) z (front_byte b front _ _ f l e c)))
+  pub nil_front : (b : ℕ) (front : List ℕ) → old.kept ≡ Nothing → new.kept ≡ Nothing → IsFront front (g.ahead old.reader)
+      → (rest : List ℕ) × (front ≡ b ∷ rest) → b ≡ 0xc0 → Skips 1 (g.ahead old.reader) (g.ahead new.reader) → Lawful g IsNil old new (Ok tt)
+  nil_front b front k q f e z c = nil_taken q (rw (bare g old k, bare g new q)
+      (subst (λ t. Consumes (g.ahead old.reader) (g.ahead new.reader) (t ∷ [])) z (bytes_consumed 1 (b ∷ []) front _ _ f e refl c)))
       (record { more = 0xc0 ∷ []; whole = rw k refl })
 
   pub nil_kept : (b : ℕ) → old.kept ≡ First b → b ≡ 0xc0 → new.kept ≡ Nothing → new.reader ≡ old.reader → Lawful g IsNil old new (Ok tt)
@@ -238,8 +194,8 @@ module _ {R C : Type 0} (g : Ghosts R) (old new : Deserializer R C) (fresh : old
 
 -- the next message is another
 pub other_front : {R C : Type 0} (g : Ghosts R) (d : Deserializer R C) (b : ℕ) (front : List ℕ) → d.kept ≡ Nothing → IsFront front (g.ahead d.reader)
-    → 1 ≤ length front → b ≡ get_or front 0 0 → b ≢ 0xc0 → g.ahead d.reader ≢ None → ToldOther (left g d)
-other_front g d b front k f l e n t = rw (bare g d k) (front_told b front _ f l e n t)
+    → (rest : List ℕ) × (front ≡ b ∷ rest) → b ≢ 0xc0 → g.ahead d.reader ≢ None → ToldOther (left g d)
+other_front g d b front k f e n t = rw (bare g d k) (front_told b front e.0 _ f e.1 n t)
 
 -- what was kept back stays
 pub sees_kept : {R C : Type 0} (g : Ghosts R) (old : Deserializer R C) → old.failed ≡ false → BeginsOther (kept_bytes old.kept) → SeesOther g old old
@@ -263,7 +219,7 @@ sees_none g old new fault o f k s m = record {
   failed = f;
   before = λ h. absurd cc;
   err = λ _ _ q. at_end_none old.strict _ (rw (bare g old k) (m.none_ahead q));
-  ends = λ _ q. rw (bare g old k) (at_end_is fault _ (m.none_ahead q) (m.end q));
+  ends = λ _. rw (bare g old k) (λ q. at_end_is fault _ (m.none_ahead q) (m.end q), record { counts = m.counts; told = λ _. tt });
   memory = λ h. absurd cc;
   stays = s;
 }

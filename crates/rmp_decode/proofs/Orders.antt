@@ -10,10 +10,22 @@ use Rattle.std.specs.List.Sorted.{IsStrictlySortedBy}
 use Rattle.std.specs.Map.{keys_of, lookup, lookup_key}
 use Rattle.std.specs.Option.{option_or}
 use Rattle.std.specs.Ordering.{is_eq, match_ordering, ordering_reverse}
+use Rattle.std.specs.declared.alloc.Global.{Global}
 use Rattle.std.specs.declared.cmp.Ordering.{Ordering}
+use Rattle.std.specs.declared.collections.BTreeMap.{BTreeMap}
+use Rattle.std.specs.declared.collections.BTreeSet.{BTreeSet}
 use Rattle.std.specs.declared.cmp.Ordering.TheVariants.{Less, Equal, Greater}
+use Rattle.rmp_wire.specs.Msg.{Msg, Msgs}
 use Rattle.rmp_decode.specs.Maps.{Collects}
+use Rattle.rmp_decode.specs.Rows.{ReadsEach}
 use Rattle.rmp_decode.specs.Sets.{CollectsKeys}
+
+-- the elements of a set, and the entries of a map, as they are collected
+abbrev pub SetOf : {K : Type 0} → (K → K → Ordering) → (Msg → K → Type 0) → BTreeSet K Global → Msgs → Type 0
+SetOf {K} cmp reads v ms = (ns : List K) × ReadsEach reads ms ns × CollectsKeys cmp ns v.keys
+
+abbrev pub MapOf : {K V : Type 0} → (K → K → Ordering) → BTreeMap K V Global → List (K × V) → Type 0
+MapOf cmp v ns = Collects cmp ns v.entries
 
 or_none : {X : Type 0} (p : Option X) → option_or p None ≡ p
 or_none None = refl

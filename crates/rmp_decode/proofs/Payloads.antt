@@ -1,5 +1,5 @@
 -- What happened at a message with a payload, each once: all that the read promises follows from it.
-use Rattle.std.proofs.Common.{◌≡◌, ◌≢◌, ◌∙◌, sym, ap, subst, refl, ℕ, ℤ, arith, Bool, true, false, List, ◌++◌, length, Option, None, Some, IfSome, Ok, Err, append_assoc}
+use Rattle.std.proofs.Common.{◌≡◌, ◌≢◌, ◌∙◌, sym, ap, subst, refl, ℕ, ℤ, arith, Bool, true, false, List, ◌++◌, length, Option, None, Some, IfSome, Result, Ok, Err, is_err, append_assoc}
 use Rattle.std.proofs.lemmas.List.{length-append}
 use Rattle.std.specs.Prelude.{IsUtf8}
 use Rattle.std.specs.Io.KnownBytes.{Consumes}
@@ -17,12 +17,12 @@ use Rattle.rmp_wire.specs.Sources.{IsShort}
 use Rattle.rmp_wire.specs.Spelling.{head_of}
 use Rattle.rmp_wire.proofs.Strict.{heads_differ_as}
 use Rattle.rmp_decode.specs.Content.{IsRawHead, IsTextHead, IsExtHead, ByUtf8}
-use Rattle.rmp_decode.specs.Exact.{TellsFault, IsDataEnd, IsUtf8Error}
+use Rattle.rmp_decode.specs.Exact.{IsUtf8Error}
 use Rattle.rmp_decode.specs.Kinds.{content_len, raw_head, raw_msg}
-use Rattle.rmp_decode.specs.Law.{Explains, Readable, ReadsHead}
+use Rattle.rmp_decode.specs.Law.{Readable, ReadsHead}
 use Rattle.rmp_decode.specs.Leaves.{IsAlone, HoldsAs}
-use Rattle.rmp_decode.specs.Payloads.{Kind, HasPayload, message, NoPayload, TakesPayload, ReadsMessage, ReadsRest}
-use Rattle.rmp_decode.specs.Pieces.{Blamed}
+use Rattle.rmp_decode.specs.Payloads.{Kind, HasPayload, message, NoPayload, ReadsPayload, TakesPayload, ReadsMessage, ReadsRest}
+use Rattle.rmp_decode.specs.Pieces.{Blamed, PullsPayload}
 use Rattle.rmp_decode.specs.Read.{IsChar, IsExt}
 use Rattle.rmp_decode.specs.State.{left}
 use Rattle.rmp_decode.specs.declared.deserializer.Deserializer.{Deserializer}
@@ -60,26 +60,48 @@ blamed_memory (Io cause) e b n = b.0
 pub clash : {P : Type 0} {t : Bool} → t ≡ false → t ≡ true → P
 clash n y = absurd (cc)
 
-module _ {R V : Type 0} (g : Ghosts R) (k : Kind V) (h : Head) (old new : R) (n : ℕ) (i : content_len h ≡ n) where
-  -- it was short
-  pub payload_short : (e : Error) → Explains e (g.faults old) (g.faults new) (IsShort n (g.ahead old)) → Explains e (g.faults old) (g.faults new) (IsDataEnd e)
-      → TellsFault (g.faults old) (g.faults new) e → (k.lends ≡ true → e ≢ OutOfMemory) → g.place new ≡ g.place old → TakesPayload g k h old new (Err e)
-  payload_short e s d f m p = record {
+module _ {R V : Type 0} (g : Ghosts R) (n : ℕ) (lends : Bool) (gives : Option (List ℕ) → Option (List ℕ) → V → Type 0) (old new : R) where
+  -- a piece was there
+  pub pull_read : (v : V) → gives (g.ahead old) (g.ahead new) v → g.faults new ≡ g.faults old → g.place new ≡ g.place old → PullsPayload g n lends gives old new (Ok v)
+  pull_read v r f p = record { ok = r; sound = f; err = tt; end = tt; fault = tt; memory = λ _. tt; place = p }
+
+  -- it wasn't had, as the source had a fault, or no memory for it
+  pub pull_blamed : (fault : SourceFault) (e : Error) → Blames fault (g.faults old) (g.faults new) (g.ahead old) n → Blamed fault e
+      → (lends ≡ true → fault ≢ Memory) → g.place new ≡ g.place old → PullsPayload g n lends gives old new (Err e)
+  pull_blamed fault e s b m p = record {
     ok = tt;
     sound = tt;
-    err = λ o q. none_short k.reads h (g.ahead old) (rw i (s o q));
-    exact = piece_ended _ _ _ _ _ _ (rw i s) d;
-    taken = piece_short _ _ _ _ _ _ (rw i s);
-    fault = f;
-    memory = m;
+    err = blamed_short n fault _ _ _ e s b;
+    end = blamed_end n fault _ _ _ e s b;
+    fault = blamed_tells n fault _ _ _ e s b;
+    memory = λ y. blamed_memory fault e b (m y);
     place = p;
   }
+
+module _ {R V : Type 0} (g : Ghosts R) (k : Kind V) (h : Head) (old new : R) (n : ℕ) (i : content_len h ≡ n) where
+  -- it wasn't had
+  pub payload_short : {W : Type 0} {gives : Option (List ℕ) → Option (List ℕ) → W → Type 0} (e : Error) → PullsPayload g n k.lends gives old new (Err e)
+      → TakesPayload g k h old new (Err e)
+  payload_short e r = record {
+    ok = tt;
+    sound = tt;
+    err = λ o q. none_short k.reads h (g.ahead old) (rw i (r.err o q));
+    exact = piece_ended _ _ _ _ _ _ (rw i r.err) r.end;
+    taken = piece_short _ _ _ _ _ _ (rw i r.err);
+    fault = r.fault;
+    memory = r.memory;
+    place = r.place;
+  }
+
+  -- it was there, and is read
+  pub payload_read : {W : Type 0} {lends : Bool} {gives : Option (List ℕ) → Option (List ℕ) → W → Type 0} (w : W) (v : V)
+      → PullsPayload g n lends gives old new (Ok w) → ReadsPayload k.reads h (g.ahead old) (g.ahead new) v → TakesPayload g k h old new (Ok v)
+  payload_read w v r p = record { ok = p; sound = r.sound; err = tt; exact = tt; taken = tt; fault = tt; memory = λ _. tt; place = r.place }
 
   -- the source had a fault, or no memory for it
   pub payload_blamed : (fault : SourceFault) (e : Error) → Blames fault (g.faults old) (g.faults new) (g.ahead old) n → Blamed fault e
       → (k.lends ≡ true → fault ≢ Memory) → g.place new ≡ g.place old → TakesPayload g k h old new (Err e)
-  payload_blamed fault e s b m p = payload_short e (blamed_short n fault _ _ _ e s b) (blamed_end n fault _ _ _ e s b) (blamed_tells n fault _ _ _ e s b)
-      (λ y. blamed_memory fault e b (m y)) p
+  payload_blamed fault e s b m p = payload_short e (pull_blamed g n k.lends (λ _ _ (v : V). Unit {0}) old new fault e s b m p)
 
   -- it was there, and isn't read
   pub payload_refused : (s : List ℕ) (e : Error) → length s ≡ n → Consumes (g.ahead old) (g.ahead new) s → g.faults new ≡ g.faults old
@@ -239,9 +261,10 @@ module _ {R C V : Type 0} (g : Ghosts R) (k : Kind V) (mid : Deserializer R C) (
       }
 
   -- the head was taken, and the payload refused
-  pub message_refused : k.wanted h → k.payload h → (e : Error) → TakesPayload g k h mid.reader last (Err e) → ReadsRest g k h mid (record mid { reader = last }) (Err e)
-  message_refused wants pays e r = λ old m begun. record {
-    law = refused g k.reads old (record mid { reader = last }) e begun.fresh begun.failed
+  pub message_refused_as : (f : Bool) → (mid.failed ≡ true → f ≡ true) → k.wanted h → k.payload h → (e : Error) → TakesPayload g k h mid.reader last (Err e)
+      → ReadsRest g k h mid (record mid { reader = last; failed = f }) (Err e)
+  message_refused_as f still wants pays e r = λ old m begun. record {
+    law = refused g k.reads old (record mid { reader = last; failed = f }) e begun.fresh (still begun.failed)
         (stays_then g old mid _ begun.stays (record { config = refl; room = refl; limit = refl; strict = refl; place = r.place }))
         (λ o q.
         let none : IfSome (left g mid) (NoPayload k.reads h) = rw (bare g mid begun.clean) (r.err o (q ∙ sym begun.sound)) in
@@ -260,3 +283,12 @@ module _ {R C V : Type 0} (g : Ghosts R) (k : Kind V) (mid : Deserializer R C) (
     taken = λ _. leaves_payload g k.payload old mid last (m, h) h (content_len h) e begun refl refl pays r.taken;
     memory = r.memory;
   }
+
+  pub message_refused : k.wanted h → k.payload h → (e : Error) → TakesPayload g k h mid.reader last (Err e) → ReadsRest g k h mid (record mid { reader = last }) (Err e)
+  message_refused wants pays e r = message_refused_as mid.failed (λ f. f) wants pays e r
+
+  -- the head was taken, and the payload read or refused, which is asked
+  pub message_asked : k.wanted h → k.payload h → (r : Result V Error) → TakesPayload g k h mid.reader last r
+      → ReadsRest g k h mid (record mid { reader = last; failed = is_err r }) r
+  message_asked wants pays (Ok v) t = message_read v t
+  message_asked wants pays (Err e) t = message_refused_as true (λ _. refl) wants pays e t

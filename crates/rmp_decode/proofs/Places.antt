@@ -1,29 +1,6 @@
 -- Places that are emptied one after another, by calls that answer what they held.
-use Rattle.std.proofs.Common.{
-  ◌≡◌,
-  ◌≢◌,
-  ◌∙◌,
-  sym,
-  ap,
-  subst,
-  ℕ,
-  zero,
-  suc,
-  ◌+◌,
-  ◌<◌,
-  ◌≤◌,
-  arith,
-  List,
-  [],
-  ◌∷◌,
-  length,
-  map,
-  slice_index_or,
-  slice_set,
-  Option,
-  Some,
-  None,
-}
+use Rattle.std.proofs.Common.{◌≡◌, ◌≢◌, ◌∙◌, sym, ap, subst, ℕ, zero, suc, ◌+◌, ◌<◌, ◌≤◌, arith, List, [], ◌∷◌, length, map, slice_index_or}
+use Rattle.std.proofs.Common.{slice_set, Option, Some, None}
 use Rattle.std.specs.Array.{index_steps, IsFromFnResultFrom}
 use Rattle.std.specs.Fn.{Mut, Called}
 use Rattle.std.specs.Iterator.{Yields}

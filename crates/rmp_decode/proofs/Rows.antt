@@ -1,36 +1,11 @@
 -- Rows of elements at the front of the bytes.
-use Rattle.std.proofs.Common.{
-  ◌≡◌,
-  ◌∙◌,
-  sym,
-  ap,
-  subst,
-  refl,
-  ℕ,
-  suc,
-  pos,
-  ◌+◌,
-  ◌<◌,
-  ◌≤◌,
-  arith,
-  List,
-  [],
-  ◌∷◌,
-  ◌++◌,
-  length,
-  Option,
-  None,
-  Some,
-  Bool,
-  true,
-  false,
-  append_assoc,
-}
+use Rattle.std.proofs.Common.{◌≡◌, ◌∙◌, sym, ap, subst, refl, ℕ, suc, pos, ◌+◌, ◌<◌, ◌≤◌, arith, List, [], ◌∷◌, ◌++◌, length, Option, None, Some}
+use Rattle.std.proofs.Common.{Bool, true, false, append_assoc}
 use Rattle.std.proofs.lemmas.List.{append-nil}
 use Rattle.std.specs.Io.KnownBytes.{Consumes}
 use Rattle.rmp_wire.specs.declared.head.Head.TheVariants.{Array, Bin}
 use Rattle.rmp_wire.specs.Canonical.{heads_of, SpellsAs}
-use Rattle.rmp_wire.specs.Msg.{Msg, nil, truth, whole, float32, float64, text, bin, list, map, extension, Msgs, no_items, item, count, depth, depth_all}
+use Rattle.rmp_wire.specs.Msg.{Msg, whole, bin, list, Msgs, no_items, item, count, depth, depth_all}
 use Rattle.rmp_wire.specs.Spelling.{AllSpelledBy, IsBytes, head_of}
 use Rattle.rmp_wire.proofs.Strict.{heads_differ_as, spelled_once_as}
 use Rattle.rmp_decode.specs.Law.{Begins, Refuses}
@@ -122,7 +97,8 @@ pub element_refused : (spells : List ℕ → Msg → Type 0) (P : Msgs → Type 
     → ((m : Msg) (ks : Msgs) → P (item m ks) → F m) → Refuses spells F room known → RefusesRow spells P room n known
 unfolding Refuses RefusesRow
 element_refused spells P F room n None l f r = tt
-element_refused spells P F room n (Some xs) l f r = λ a. r (first_of spells P F room n xs a.trees a.bytes a.rest f a.front a.spelled a.many l a.fits a.holds)
+element_refused spells P F room n (Some xs) l f r = λ a. r
+    (first_of spells P F room n xs a.trees a.bytes a.rest f a.front a.spelled a.many l a.fits a.holds)
 
 -- there are too few or too many
 pub count_refused : (spells : List ℕ → Msg → Type 0) (P : Msgs → Type 0) (room n : ℕ) (known : Option (List ℕ)) → ((ks : Msgs) → P ks → count ks ≡ n → ⊥)
@@ -184,12 +160,6 @@ byte_row (item m ms) b s =
 inside : (w in_bytes : Bool) (P : Msgs → Type 0) (room n : ℕ) (m : Msg) (a x y : List ℕ) → OfRow P m → SpellsAs w a m → depth m < room + levels in_bytes
     → 0 < room → head_of m ≡ seq_head in_bytes n
     → ((c : List ℕ) → ((d : List ℕ) → a ≡ d ++ c → heads_of w (head_of m) d → c ++ x ≡ y)) → BeginsRow (SpellsIn w in_bytes) P room n y
-inside w in_bytes P room n nil a x y o s d l e f = absurd o
-inside w in_bytes P room n (truth t) a x y o s d l e f = absurd o
-inside w in_bytes P room n (whole z) a x y o s d l e f = absurd o
-inside w in_bytes P room n (float32 k) a x y o s d l e f = absurd o
-inside w in_bytes P room n (float64 k) a x y o s d l e f = absurd o
-inside w in_bytes P room n (text t) a x y o s d l e f = absurd o
 inside w true P room n (bin t) a x y o s d l e f =
     let same : length t ≡ n = cc in
     let c = s.is_second.0 in
@@ -218,8 +188,7 @@ inside w false P room n (list ms) a x y o s d l e f =
       fits = omega (arith, d);
       holds = o;
     }
-inside w in_bytes P room n (map ps) a x y o s d l e f = absurd o
-inside w in_bytes P room n (extension tag t) a x y o s d l e f = absurd o
+inside w in_bytes P room n m a x y o s d l e f = absurd o
 
 -- where no row is accepted after the head, no list or bytes is before it
 pub row_whole : (w in_bytes : Bool) (P : Msgs → Type 0) (outer room n : ℕ) (known k : Option (List ℕ)) (b : List ℕ) → Consumes known k b
@@ -270,25 +239,11 @@ whole_row w false P ms n head bytes i s c p =
 
 -- a value that reads the row
 pub readable_row : {V : Type 0} (Q : V → Msgs → Type 0) (m : Msg) → (v : V) × OfRow (Q v) m → OfRow (λ ms. (v : V) × Q v ms) m
-readable_row Q nil r = r.1
-readable_row Q (truth t) r = r.1
-readable_row Q (whole z) r = r.1
-readable_row Q (float32 n) r = r.1
-readable_row Q (float64 n) r = r.1
-readable_row Q (text s) r = r.1
 readable_row Q (bin s) r = r
 readable_row Q (list ms) r = r
-readable_row Q (map ps) r = r.1
-readable_row Q (extension tag s) r = r.1
+readable_row Q m r = r.1
 
 pub is_seq : {V : Type 0} (Q : V → Msgs → Type 0) (m : Msg) → (v : V) × OfRow (Q v) m → OfRow (λ ms. Unit {0}) m
-is_seq Q nil r = r.1
-is_seq Q (truth t) r = r.1
-is_seq Q (whole z) r = r.1
-is_seq Q (float32 n) r = r.1
-is_seq Q (float64 n) r = r.1
-is_seq Q (text s) r = r.1
 is_seq Q (bin s) r = tt
 is_seq Q (list ms) r = tt
-is_seq Q (map ps) r = r.1
-is_seq Q (extension tag s) r = r.1
+is_seq Q m r = r.1

@@ -1,48 +1,23 @@
 -- What the read of a list says, from what its opening, its elements and its end say.
-use Rattle.std.proofs.Common.{◌≡◌, ◌∙◌, sym, ap, subst, refl, ℕ, suc, ◌+◌, ◌<◌, inl, inr, max, arith, List, [], ◌∷◌, ◌++◌, true, false, Ok, Err, append_assoc}
+use Rattle.std.proofs.Common.{◌≡◌, ◌∙◌, sym, ap, subst, refl, ℕ, suc, ◌+◌, ◌<◌, inl, inr, max, arith, List, [], ◌∷◌, ◌++◌, true, false, Ok, Err}
+use Rattle.std.proofs.Common.{append_assoc}
 use Rattle.std.proofs.KnownBytes.{Consumes-nil, Consumes-trans}
 use Rattle.rmp_wire.specs.declared.source.Source.{Ghosts}
 use Rattle.rmp_wire.specs.Msg.{Msg, Msgs, no_items, item, count}
 use Rattle.rmp_wire.specs.Canonical.{SpellsAs}
 use Rattle.rmp_decode.specs.Law.{Refuses, Readable, Explains, Lawful}
-use Rattle.rmp_decode.specs.Seq.{
-  OfRow,
-  IsSeq,
-  SpellsIn,
-  SpellsRow,
-  RefusesRow,
-  inner_of,
-  IsOpen,
-  Opens,
-  FailsToOpen,
-  TakesElement,
-  FailsToTake,
-  FailsElement,
-  Run,
-  FailsParts,
-}
+use Rattle.rmp_decode.specs.Seq.{OfRow, IsSeq, not_seq, SpellsIn, SpellsRow, RefusesRow, inner_of, IsOpen, Opens, FailsToOpen, TakesElement}
+use Rattle.rmp_decode.specs.Seq.{FailsToTake, FailsElement, Run, FailsParts}
 use Rattle.rmp_decode.specs.State.{left, faults_of, room_of, kept_bytes, Stays}
 use Rattle.rmp_decode.specs.Rows.{ReadsEach, AndThen, NoMore}
 use Rattle.rmp_decode.specs.declared.deserializer.Deserializer.{Deserializer}
 use Rattle.rmp_decode.specs.declared.access.seq.SeqAccess.{SeqAccess}
 use Rattle.rmp_decode.specs.declared.error.Error.{Error}
 use Rattle.rmp_decode.specs.declared.error.Error.TheVariants.{OutOfMemory}
-use Rattle.rmp_decode.proofs.Laws.{stays_refl, stays_then}
+use Rattle.rmp_decode.proofs.Laws.{stays_refl, stays_then, refused, unopened}
 use Rattle.rmp_decode.proofs.NothingAccepted.{refuses_narrower}
-use Rattle.rmp_decode.proofs.Rows.{
-  push,
-  append,
-  count-push,
-  depth-push,
-  row-push,
-  rest_refused,
-  element_refused,
-  count_refused,
-  row_whole,
-  whole_row,
-  readable_row,
-  is_seq,
-}
+use Rattle.rmp_decode.proofs.Rows.{push, append, count-push, depth-push, row-push, rest_refused, element_refused, count_refused, row_whole, whole_row}
+use Rattle.rmp_decode.proofs.Rows.{readable_row, is_seq}
 
 -- a chain through what is named
 pub via : {A : Type 0} {x z : A} (y : A) → x ≡ y → y ≡ z → x ≡ z
@@ -85,18 +60,30 @@ run_step g reads start mid now ms v r t n =
       still = t.still;
     }
 
+-- after these elements no row is to come of which Q holds, since there is no element that would do, or none at all
+none_follows : {R C V A : Type 0} (g : Ghosts R) (Q : V → Msgs → Type 0) (start mid : SeqAccess R C) (ms : Msgs) → Run g start mid ms
+    → (reads : Msg → A → Type 0)
+    (now : SeqAccess R C) (e : Error) → FailsElement g reads mid now e → ((m : Msg) (ks : Msgs) (v : V) → Q v (append ms (item m ks)) → Readable reads m)
+    → (mid.left ≡ 0 → (v : V) → Q v (append ms no_items) → ⊥) → Explains e (faults_of g mid.de.now) (faults_of g now.de.now)
+    (RefusesRow (SpellsIn start.de.now.strict start.bytes) (λ ks. (v : V) × Q v (append ms ks)) (inner_of start) mid.left (left g mid.de.now))
+none_follows {V} g Q start mid ms r reads now e f proj some = λ n k. elim f.err [
+  | inl z ↦ count_refused (SpellsIn start.de.now.strict start.bytes) (λ ks. (v : V) × Q v (append ms ks)) (inner_of start) mid.left (left g mid.de.now)
+      (none_left (some z) z)
+  | inr p ↦
+      let rs = subst (λ z. Refuses (SpellsIn z mid.bytes) (Readable reads) (inner_of mid) (left g mid.de.now)) r.stays.strict (p.1 n k) in
+      let r1 = subst (λ z. Refuses (SpellsIn start.de.now.strict z) (Readable reads) (inner_of mid) (left g mid.de.now)) r.bytes_same rs in
+      let r2 = subst (λ z. Refuses (SpellsIn start.de.now.strict start.bytes) (Readable reads) (max 1 z) (left g mid.de.now)) r.inner r1 in
+      element_refused (SpellsIn start.de.now.strict start.bytes) (λ ks. (v : V) × Q v (append ms ks)) (Readable reads) (inner_of start) mid.left
+      (left g mid.de.now) p.0 (λ m ks h. proj m ks h.0 h.1) r2
+]
+  where
+    none_left : ((v : V) → Q v (append ms no_items) → ⊥) → mid.left ≡ 0 → (ks : Msgs) → (v : V) × Q v (append ms ks) → count ks ≡ mid.left → ⊥
+    none_left f z no_items h c = f h.0 h.1
+    none_left f z (item m ks) h c = omega arith
+
 module _ {R C V : Type 0} (g : Ghosts R) (Q : V → Msgs → Type 0) (old : Deserializer R C) where
   pub seq_unopened : (last : Deserializer R C) (e : Error) → FailsToOpen g old last e → Lawful g (λ m v. OfRow (Q v) m) old last (Err e)
-  seq_unopened last e f = record {
-    ok = tt;
-    ready = tt;
-    clean = tt;
-    sound = tt;
-    failed = f.failed;
-    before = f.before;
-    stays = f.stays;
-    err = λ o n k. refuses_narrower (SpellsAs old.strict) IsSeq _ _ _ (is_seq Q) (f.err o n k);
-  }
+  seq_unopened last e f = unopened g (λ m v. OfRow (Q v) m) IsSeq not_seq old last e f (is_seq Q)
 
   module _ (start mid : SeqAccess R C) (ms : Msgs) (o : Opens g old start) (r : Run g start mid ms) (last : Deserializer R C) where
     -- the list is whole
@@ -140,72 +127,38 @@ module _ {R C V : Type 0} (g : Ghosts R) (Q : V → Msgs → Type 0) (old : Dese
         → Explains e (faults_of g mid.de.now) (faults_of g last)
         (RefusesRow (SpellsIn start.de.now.strict start.bytes) (λ ks. (v : V) × Q v (append ms ks)) (inner_of start) mid.left (left g mid.de.now))
         → Lawful g (λ m v. OfRow (Q v) m) old last (Err e)
-    seq_refused e s f x = record {
-      ok = tt;
-      ready = tt;
-      clean = tt;
-      sound = tt;
-      failed = f;
-      stays = stays_then g old start.de.now last o.stays (stays_then g start.de.now mid.de.now last r.stays s);
-      before = λ h. absurd (let p = o.fresh in cc);
-      err = λ _ n k.
-          let rest = x n (k ∙ sym o.faults_same ∙ sym r.faults_same) in
-          let row = rest_refused start.de.now.strict start.bytes (λ ks. (v : V) × Q v ks) (inner_of start) mid.left start.left (left g start.de.now)
-          (left g mid.de.now) ms r.bytes r.takes r.spelled r.many rest in
-          refuses_narrower (SpellsAs old.strict) (OfRow (λ ks. (v : V) × Q v ks)) _ _ _ (readable_row Q)
-          (row_whole old.strict start.bytes (λ ks. (v : V) × Q v ks) (room_of old) (inner_of start) start.left (left g old) (left g start.de.now)
-          o.head.bytes o.head.takes o.head.is_head o.room (omega arith)
-          (subst (λ z. RefusesRow (SpellsIn z start.bytes) (λ ks. (v : V) × Q v ks) (inner_of start) start.left (left g start.de.now)) o.stays.strict row));
-    }
+    seq_refused e s f x = refused g (λ m v. OfRow (Q v) m) old last e o.fresh f
+        (stays_then g old start.de.now last o.stays (stays_then g start.de.now mid.de.now last r.stays s))
+        (λ n k.
+        let rest = x n (k ∙ sym o.faults_same ∙ sym r.faults_same) in
+        let row = rest_refused start.de.now.strict start.bytes (λ ks. (v : V) × Q v ks) (inner_of start) mid.left start.left (left g start.de.now)
+        (left g mid.de.now) ms r.bytes r.takes r.spelled r.many rest in
+        refuses_narrower (SpellsAs old.strict) (OfRow (λ ks. (v : V) × Q v ks)) _ _ _ (readable_row Q)
+        (row_whole old.strict start.bytes (λ ks. (v : V) × Q v ks) (room_of old) (inner_of start) start.left (left g old) (left g start.de.now)
+        o.head.bytes o.head.takes o.head.is_head o.room (omega arith)
+        (subst (λ z. RefusesRow (SpellsIn z start.bytes) (λ ks. (v : V) × Q v ks) (inner_of start) start.left (left g start.de.now)) o.stays.strict row)))
 
     -- memory was short
     pub seq_unkept : last ≡ mid.de.now → Lawful g (λ m v. OfRow (Q v) m) old last (Err OutOfMemory)
-    seq_unkept q = rw q (seq_refused_here)
-      where
-        seq_refused_here : Lawful g (λ m v. OfRow (Q v) m) old mid.de.now (Err OutOfMemory)
-        seq_refused_here = record {
-          ok = tt;
-          ready = tt;
-          clean = tt;
-          sound = tt;
-          failed = r.still.marked;
-          stays = stays_then g old start.de.now mid.de.now o.stays r.stays;
-          before = λ h. absurd (let p = o.fresh in cc);
-          err = λ _ n k. absurd (n refl);
-        }
+    seq_unkept q = seq_refused OutOfMemory (rw q (stays_refl g mid.de.now)) (ap (λ (z : Deserializer R C). z.failed) q ∙ r.still.marked)
+        (λ n k. absurd (n refl))
 
     -- there was no element that would do, or none at all
     pub seq_element : {A : Type 0} (reads : Msg → A → Type 0) (now : SeqAccess R C) (e : Error) → FailsElement g reads mid now e → now.de.now.failed ≡ true
         → last ≡ now.de.now
         → ((m : Msg) (ks : Msgs) (v : V) → Q v (append ms (item m ks)) → Readable reads m) → ((v : V) → Q v (append ms no_items) → ⊥)
         → Lawful g (λ m v. OfRow (Q v) m) old last (Err e)
-    seq_element reads now e f d q proj some = seq_refused e (rw q f.stays) (ap (λ (z : Deserializer R C). z.failed) q ∙ d) (λ n k. elim f.err [
-      | inl z ↦ count_refused (SpellsIn start.de.now.strict start.bytes) (λ ks. (v : V) × Q v (append ms ks)) (inner_of start) mid.left (left g mid.de.now)
-          (none_left some z)
-      | inr p ↦
-          let r0 = p.1 n (ap (faults_of g) (sym q) ∙ k) in
-          let rs = subst (λ z. Refuses (SpellsIn z mid.bytes) (Readable reads) (inner_of mid) (left g mid.de.now)) r.stays.strict r0 in
-          let r1 = subst (λ z. Refuses (SpellsIn start.de.now.strict z) (Readable reads) (inner_of mid) (left g mid.de.now)) r.bytes_same rs in
-          let r2 = subst (λ z. Refuses (SpellsIn start.de.now.strict start.bytes) (Readable reads) (max 1 z) (left g mid.de.now)) r.inner r1 in
-          element_refused (SpellsIn start.de.now.strict start.bytes) (λ ks. (v : V) × Q v (append ms ks)) (Readable reads) (inner_of start) mid.left
-          (left g mid.de.now) p.0 (λ m ks h. proj m ks h.0 h.1) r2
-    ])
-      where
-        none_left : ((v : V) → Q v (append ms no_items) → ⊥) → mid.left ≡ 0 → (ks : Msgs) → (v : V) × Q v (append ms ks) → count ks ≡ mid.left → ⊥
-        none_left f z no_items h c = f h.0 h.1
-        none_left f z (item m ks) h c = omega arith
+    seq_element reads now e f d q proj some = seq_refused e (rw q f.stays) (ap (λ (z : Deserializer R C). z.failed) q ∙ d)
+        (λ n k. none_follows g Q start mid ms r reads now e f proj (λ _. some) n (ap (faults_of g) (sym q) ∙ k))
 
     -- an element was refused
     pub seq_take : {A : Type 0} (reads : Msg → A → Type 0) (now : SeqAccess R C) (e : Error) → FailsToTake g reads mid now e → now.de.now.failed ≡ true
         → last ≡ now.de.now
         → ((m : Msg) (ks : Msgs) (v : V) → Q v (append ms (item m ks)) → Readable reads m) → Lawful g (λ m v. OfRow (Q v) m) old last (Err e)
-    seq_take reads now e f d q proj = seq_refused e (rw q f.stays) (ap (λ (z : Deserializer R C). z.failed) q ∙ d) (λ n k.
-        let r0 = f.err n (ap (faults_of g) (sym q) ∙ k) in
-        let rs = subst (λ z. Refuses (SpellsIn z mid.bytes) (Readable reads) (inner_of mid) (left g mid.de.now)) r.stays.strict r0 in
-        let r1 = subst (λ z. Refuses (SpellsIn start.de.now.strict z) (Readable reads) (inner_of mid) (left g mid.de.now)) r.bytes_same rs in
-        let r2 = subst (λ z. Refuses (SpellsIn start.de.now.strict start.bytes) (Readable reads) (max 1 z) (left g mid.de.now)) r.inner r1 in
-        element_refused (SpellsIn start.de.now.strict start.bytes) (λ ks. (v : V) × Q v (append ms ks)) (Readable reads) (inner_of start) mid.left
-        (left g mid.de.now) f.some (λ m ks h. proj m ks h.0 h.1) r2)
+    seq_take reads now e f d q proj = seq_refused e (rw q f.stays) (ap (λ (z : Deserializer R C). z.failed) q ∙ d)
+        (λ n k. none_follows g Q start mid ms r reads now e (record { stays = f.stays; err = inr (f.some, f.err) }) proj (λ z v h. omega (arith, z, f.some))
+        n
+        (ap (faults_of g) (sym q) ∙ k))
 
     -- there are more elements than are wanted
     pub seq_more : (e : Error) → 0 < mid.left → last ≡ mid.de.now → ((m : Msg) (ks : Msgs) (v : V) → Q v (append ms (item m ks)) → ⊥)
@@ -235,22 +188,9 @@ module _ {R C V : Type 0} (g : Ghosts R) (Q : V → Msgs → Type 0) (start mid 
 
   -- there was no element that would do, or none at all
   pub parts_element : {A : Type 0} (reads : Msg → A → Type 0) (now : SeqAccess R C) (e : Error) → FailsElement g reads mid now e → now.de.now.failed ≡ true
-      → ((m : Msg) (ks : Msgs) (v : V) → Q v (append ms (item m ks)) → Readable reads m) → ((v : V) → Q v (append ms no_items) → ⊥) → FailsParts g Q start now e
-  parts_element reads now e f d proj some = parts_refused now e f.stays d (λ n k. elim f.err [
-    | inl z ↦ count_refused (SpellsIn start.de.now.strict start.bytes) (λ ks. (v : V) × Q v (append ms ks)) (inner_of start) mid.left (left g mid.de.now)
-        (none_left some z)
-    | inr p ↦
-        let r0 = p.1 n k in
-        let rs = subst (λ z. Refuses (SpellsIn z mid.bytes) (Readable reads) (inner_of mid) (left g mid.de.now)) r.stays.strict r0 in
-        let r1 = subst (λ z. Refuses (SpellsIn start.de.now.strict z) (Readable reads) (inner_of mid) (left g mid.de.now)) r.bytes_same rs in
-        let r2 = subst (λ z. Refuses (SpellsIn start.de.now.strict start.bytes) (Readable reads) (max 1 z) (left g mid.de.now)) r.inner r1 in
-        element_refused (SpellsIn start.de.now.strict start.bytes) (λ ks. (v : V) × Q v (append ms ks)) (Readable reads) (inner_of start) mid.left
-        (left g mid.de.now) p.0 (λ m ks h. proj m ks h.0 h.1) r2
-  ])
-    where
-      none_left : ((v : V) → Q v (append ms no_items) → ⊥) → mid.left ≡ 0 → (ks : Msgs) → (v : V) × Q v (append ms ks) → count ks ≡ mid.left → ⊥
-      none_left f z no_items h c = f h.0 h.1
-      none_left f z (item m ks) h c = omega arith
+      → ((m : Msg) (ks : Msgs) (v : V) → Q v (append ms (item m ks)) → Readable reads m) → ((v : V) → Q v (append ms no_items) → ⊥)
+      → FailsParts g Q start now e
+  parts_element reads now e f d proj some = parts_refused now e f.stays d (none_follows g Q start mid ms r reads now e f proj (λ _. some))
 
 -- a list none of whose rows has such parts
 pub seq_parts : {R C V : Type 0} (g : Ghosts R) (Q : V → Msgs

@@ -1,36 +1,6 @@
 -- What passing over a message says.
-use Rattle.std.proofs.Common.{
-  ◌≡◌,
-  ◌∙◌,
-  sym,
-  ap,
-  subst,
-  refl,
-  ℕ,
-  zero,
-  suc,
-  ◌-◌,
-  ◌*◌,
-  ◌<◌,
-  ◌≤◌,
-  max,
-  arith,
-  List,
-  [],
-  ◌∷◌,
-  ◌++◌,
-  length,
-  Option,
-  None,
-  Some,
-  Bool,
-  true,
-  false,
-  Result,
-  Ok,
-  Err,
-  append_assoc,
-}
+use Rattle.std.proofs.Common.{◌≡◌, ◌∙◌, sym, ap, subst, refl, ℕ, zero, suc, ◌-◌, ◌*◌, ◌<◌, ◌≤◌, max, arith, List, [], ◌∷◌, ◌++◌, length, Option}
+use Rattle.std.proofs.Common.{Bool, true, false, Result, Ok, Err, append_assoc}
 use Rattle.std.proofs.lemmas.List.{append-nil}
 use Rattle.std.specs.Io.KnownBytes.{Consumes}
 use Rattle.std.proofs.KnownBytes.{Consumes-trans}
@@ -39,30 +9,8 @@ use Rattle.rmp_wire.specs.declared.head.Head.TheVariants.{Nil, Truth, Whole, F32
 use Rattle.rmp_wire.specs.declared.marker.Marker.{Marker}
 use Rattle.rmp_wire.specs.declared.source.Source.{Ghosts}
 use Rattle.rmp_wire.specs.Canonical.{heads_of, SpellsAs}
-use Rattle.rmp_wire.specs.Msg.{
-  Msg,
-  nil,
-  truth,
-  whole,
-  float32,
-  float64,
-  text,
-  bin,
-  list,
-  map,
-  extension,
-  Msgs,
-  no_items,
-  item,
-  Pairs,
-  no_pairs,
-  pair,
-  count,
-  count_pairs,
-  depth,
-  depth_all,
-  depth_pairs,
-}
+use Rattle.rmp_wire.specs.Msg.{Msg, nil, truth, whole, float32, float64, text, bin, list, map, extension, Msgs, no_items, item, Pairs, no_pairs, pair}
+use Rattle.rmp_wire.specs.Msg.{count, count_pairs, depth, depth_all, depth_pairs}
 use Rattle.rmp_wire.specs.Sources.{IsShort}
 use Rattle.rmp_wire.specs.Spelling.{PairsSpelledBy, IsBytes, head_of}
 use Rattle.rmp_wire.proofs.Strict.{heads_differ_as}
@@ -80,7 +28,7 @@ use Rattle.rmp_decode.specs.declared.deserializer.skip.Part.{Part}
 use Rattle.rmp_decode.specs.declared.deserializer.skip.Part.TheVariants.{Parts, Leaf}
 use Rattle.rmp_decode.specs.declared.error.Error.{Error}
 use Rattle.rmp_decode.proofs.Contents.{bare}
-use Rattle.rmp_decode.proofs.Laws.{refused, stays_then, stays_refl}
+use Rattle.rmp_decode.proofs.Laws.{refused, stays_then}
 use Rattle.rmp_decode.proofs.NothingAccepted.{content_of, refuses_short, refuses_by, same_head}
 use Rattle.rmp_decode.proofs.Rows.{in_list, listed}
 
@@ -405,17 +353,6 @@ module _ {R C : Type 0} (g : Ghosts R) (old mid new : Deserializer R C) (p : Mar
       → SkipsRow g (room_of mid - 1) (parts_count is_map n) mid new r → Lawful g any_tree old new r
   nest is_map n (Ok u) i s = skipped_nest is_map n i s
   nest is_map n (Err e) i s = unskipped_nest is_map n e i s
-
--- ---- the loop
-
--- no room for a list or a map
-pub no_room : {R C : Type 0} (g : Ghosts R) (n : ℕ) (d : Deserializer R C) (e : Error) → d.failed ≡ true → d.room ≤ 1 → SkipsRow g (room_of d - 1) n d d (Err e)
-unfolding RefusesRow
-no_room g n d e f l = record { ok = tt; ready = tt; clean = tt; sound = tt; err = λ _ _. none_fit (left g d); failed = f; stays = stays_refl g d }
-  where
-    none_fit : (known : Option (List ℕ)) → RefusesRow (SpellsAs d.strict) any_row (room_of d - 1) n known
-    none_fit None = tt
-    none_fit (Some xs) = λ a. let b = a.fits in omega arith
 
 -- ---- the head that was taken
 

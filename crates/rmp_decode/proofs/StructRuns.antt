@@ -8,29 +8,9 @@ use Rattle.rmp_wire.specs.declared.source.Source.{Ghosts}
 use Rattle.rmp_wire.specs.Canonical.{SpellsAs}
 use Rattle.rmp_wire.specs.Msg.{Msg, nil, truth, whole, float32, float64, text, bin, list, map, extension, Msgs, no_items, item, no_pairs, count}
 use Rattle.rmp_wire.specs.Spelling.{head_of}
-use Rattle.rmp_decode.specs.FieldAccess.{
-  begun,
-  IsStructOpen,
-  SameStruct,
-  names_in,
-  as_map,
-  as_seq,
-  OpensStruct,
-  OpensAs,
-  Passes,
-  TakesName,
-  Meets,
-  TakesPlace,
-  TakesPlaceAs,
-  NoPlace,
-  NoPlaceAs,
-  FailsPlace,
-  FailsPlaceAs,
-  TakesField,
-  TakesFieldAs,
-  FailsField,
-  FailsFieldAs,
-}
+use Rattle.rmp_decode.specs.FieldAccess.{begun, IsStructOpen, SameStruct, names_in, as_map, as_seq, OpensStruct, OpensAs, Passes, TakesName, Meets}
+use Rattle.rmp_decode.specs.FieldAccess.{TakesPlace, TakesPlaceAs, NoPlace, NoPlaceAs, FailsPlace, FailsPlaceAs, TakesField, TakesFieldAs, FailsField}
+use Rattle.rmp_decode.specs.FieldAccess.{FailsFieldAs}
 use Rattle.rmp_decode.specs.Fields.{blank, put, put_named, given, given_all, OfFields, Field, Absent, Slot, at}
 use Rattle.rmp_decode.specs.Law.{Lawful, Readable}
 use Rattle.rmp_decode.specs.Maps.{OpensMap, TakesKey, TakesValue, map_inner}
@@ -48,15 +28,7 @@ use Rattle.rmp_decode.proofs.Meeting.{met_push, put_at}
 use Rattle.rmp_decode.proofs.NothingAccepted.{refuses_narrower}
 use Rattle.rmp_decode.proofs.Rows.{push, append, count-push}
 use Rattle.rmp_decode.proofs.Seqs.{run_start, run_step, seq_done, seq_element, seq_take, seq_more, count-append}
-use Rattle.rmp_decode.proofs.Structs.{
-  FieldsRun,
-  fields_done,
-  fields_key,
-  fields_missing,
-  fields_value,
-  fields_passed,
-  lawful_slow,
-}
+use Rattle.rmp_decode.proofs.Structs.{FieldsRun, fields_done, fields_key, fields_missing, fields_value, fields_passed, lawful_slow}
 
 -- ---- the fields of a list so far
 

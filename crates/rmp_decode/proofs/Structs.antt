@@ -1,57 +1,29 @@
 -- What the read of a struct says, from what its opening, its keys, its values and its end say.
-use Rattle.std.proofs.Common.{
-  ◌≡◌,
-  ◌∙◌,
-  sym,
-  ap,
-  subst,
-  refl,
-  inl,
-  inr,
-  ◌⊎◌,
-  ℕ,
-  suc,
-  ◌<◌,
-  arith,
-  List,
-  length,
-  Bool,
-  cond,
-  nat_eq,
-  true,
-  false,
-  Option,
-  None,
-  Some,
-  MatchOption,
-  Ok,
-  Err,
-}
+use Rattle.std.proofs.Common.{◌≡◌, ◌∙◌, sym, ap, subst, refl, inl, inr, ◌⊎◌, ℕ, suc, ◌<◌, arith, List, length, Bool, cond, nat_eq, true, false}
+use Rattle.std.proofs.Common.{Option, None, Some, MatchOption, Ok, Err}
 use Rattle.std.specs.Option.{option_and_then}
 use Rattle.std.specs.Io.KnownBytes.{Consumes}
 use Rattle.rmp_wire.specs.declared.head.Head.{Head}
 use Rattle.rmp_wire.specs.declared.head.Head.TheVariants.{Map}
 use Rattle.rmp_wire.specs.declared.source.Source.{Ghosts}
 use Rattle.rmp_wire.specs.Canonical.{heads_of, SpellsAs}
-use Rattle.rmp_wire.specs.Msg.{Msg, nil, truth, whole, float32, float64, text, bin, list, map, extension, Msgs, no_items, item, Pairs, no_pairs, count}
+use Rattle.rmp_wire.specs.Msg.{Msg, bin, list, map, Msgs, no_items, item, Pairs, no_pairs, count}
 use Rattle.rmp_wire.specs.Spelling.{head_of}
-use Rattle.rmp_decode.specs.Fields.{blank, put, put_named, met, given, given_all, OfFields, at, Fills, IsFull, HasFields, FailsToOpenFields}
+use Rattle.rmp_decode.specs.Fields.{blank, put, put_named, met, given, given_all, OfFields, at, Fills, IsFull, HasFields, not_fields, FailsToOpenFields}
 use Rattle.rmp_decode.specs.Law.{Refuses, Readable, Lawful, TakesHead}
 use Rattle.rmp_decode.specs.Maps.{OfMap, map_inner, owed, to_come, IsMapOpen, OpensMap, TakesKey, TakesValue}
 use Rattle.rmp_decode.specs.Names.{IsName}
 use Rattle.rmp_decode.specs.Parts.{FailsPart}
-use Rattle.rmp_decode.specs.Seq.{numbers, OfRow, seq_head, Opens, TakesParts, FailsParts}
-use Rattle.rmp_decode.specs.declared.access.seq.SeqAccess.{SeqAccess}
-use Rattle.rmp_decode.proofs.Seqs.{seq_parts, seq_done, seq_over}
+use Rattle.rmp_decode.specs.Seq.{numbers, OfRow, seq_head}
 use Rattle.rmp_decode.specs.Skip.{any_tree}
 use Rattle.rmp_decode.specs.State.{left}
 use Rattle.rmp_decode.specs.declared.deserializer.Deserializer.{Deserializer}
 use Rattle.rmp_decode.specs.declared.access.map.MapAccess.{MapAccess}
 use Rattle.rmp_decode.specs.declared.error.Error.{Error}
-use Rattle.rmp_decode.proofs.Laws.{stays_refl, lawful_ok}
+use Rattle.rmp_decode.proofs.Laws.{stays_refl, lawful_ok, unopened}
 use Rattle.rmp_decode.proofs.Maps.{flat, push_pair, flat-push, Flat, MapRun, map_start, map_key, map_value, map_done, map_refused, map_take}
 use Rattle.rmp_decode.proofs.Meeting.{met_push, none_met, key_named, value_put}
-use Rattle.rmp_decode.proofs.NothingAccepted.{refuses_narrower, same_head}
+use Rattle.rmp_decode.proofs.NothingAccepted.{same_head}
 use Rattle.rmp_decode.proofs.Rows.{push, append, count_refused}
 
 -- what is refused after a head, of trees that begin with it
@@ -89,30 +61,16 @@ lawful_slow g reads reads' old mid new e h t f l = record {
 }
 
 pub has_fields : (names : List (List ℕ)) (Q : List (Option Msg) → Type 0) (m : Msg) → OfFields names Q m → HasFields m
-has_fields names Q nil h = h
-has_fields names Q (truth t) h = h
-has_fields names Q (whole z) h = h
-has_fields names Q (float32 n) h = h
-has_fields names Q (float64 n) h = h
-has_fields names Q (text s) h = h
 has_fields names Q (bin s) h = tt
 has_fields names Q (list ms) h = tt
 has_fields names Q (map ps) h = tt
-has_fields names Q (extension tag s) h = h
+has_fields names Q m h = h
 
 -- nothing could be opened
 pub fields_unopened : {R C V : Type 0} (g : Ghosts R) (names : List (List ℕ)) (Q : List (Option Msg) → V → Type 0) (old new : Deserializer R C) (e : Error)
     → FailsToOpenFields g old new e → Lawful g (λ m v. OfFields names (λ fs. Q fs v) m) old new (Err e)
-fields_unopened g names Q old new e f = record {
-  ok = tt;
-  ready = tt;
-  clean = tt;
-  sound = tt;
-  failed = f.failed;
-  before = f.before;
-  stays = f.stays;
-  err = λ o n k. refuses_narrower (SpellsAs old.strict) HasFields _ _ _ (λ m h. has_fields names (λ fs. Q fs h.0) m h.1) (f.err o n k);
-}
+fields_unopened g names Q old new e f = unopened g (λ m v. OfFields names (λ fs. Q fs v) m) HasFields not_fields old new e f
+    (λ m h. has_fields names (λ fs. Q fs h.0) m h.1)
 
 -- pairs whose fields are such
 abbrev pub Meets : {V : Type 0} → List (List ℕ) → (List (Option Msg) → V → Type 0) → V → Pairs → Type 0
@@ -120,29 +78,15 @@ Meets names Q v ps = MatchOption (met names (blank names) ps) ⊥ (λ fs. Q fs v
 
 of_map : {V : Type 0} (names : List (List ℕ)) (Q : List (Option Msg) → V → Type 0) (v : V) (m : Msg) → OfMap (Meets names Q v) m
     → OfFields names (λ fs. Q fs v) m
-of_map names Q v nil h = h
-of_map names Q v (truth t) h = h
-of_map names Q v (whole z) h = h
-of_map names Q v (float32 n) h = h
-of_map names Q v (float64 n) h = h
-of_map names Q v (text s) h = h
-of_map names Q v (bin s) h = absurd h
-of_map names Q v (list ms) h = absurd h
 of_map names Q v (map ps) h = h
-of_map names Q v (extension tag s) h = h
+of_map names Q v m h = absurd h
 
 is_of_map : {V : Type 0} (names : List (List ℕ)) (Q : List (Option Msg) → V → Type 0) (n : ℕ) (m : Msg) → head_of m ≡ Map n
     → (v : V) × OfFields names (λ fs. Q fs v) m → (v : V) × OfMap (Meets names Q v) m
-is_of_map names Q n nil e h = absurd h.1
-is_of_map names Q n (truth t) e h = absurd h.1
-is_of_map names Q n (whole z) e h = absurd h.1
-is_of_map names Q n (float32 k) e h = absurd h.1
-is_of_map names Q n (float64 k) e h = absurd h.1
-is_of_map names Q n (text s) e h = absurd h.1
 is_of_map names Q n (bin s) e h = absurd (cc)
 is_of_map names Q n (list ms) e h = absurd (cc)
 is_of_map names Q n (map ps) e h = h
-is_of_map names Q n (extension tag s) e h = absurd h.1
+is_of_map names Q n m e h = absurd h.1
 
 -- ---- fields that were met so far
 
@@ -274,6 +218,11 @@ length_given (item m ms) = ap suc (length_given ms)
 abbrev pub Gives : {V : Type 0} → (List (Option Msg) → V → Type 0) → V → Msgs → Type 0
 Gives Q v ms = Q (given_all ms) v
 
+pub gives_counted : {V : Type 0} (Q : List (Option Msg) → V → Type 0) (n : ℕ) → ((fs : List (Option Msg)) (v : V) → Q fs v → length fs ≡ n)
+    → (v : V) (ms : Msgs)
+    → Gives Q v ms → count ms ≡ n
+gives_counted Q n counted v ms h = sym (length_given ms) ∙ counted (given_all ms) v h
+
 module _ {V : Type 0} (names : List (List ℕ)) (Q : List (Option Msg) → V → Type 0) where
   when_given : (ms : Msgs) (v : V) → MatchOption (given names ms) ⊥ (λ fs. Q fs v) → Gives Q v ms
   when_given ms v h = go (nat_eq (count ms) (length names)) h
@@ -282,55 +231,21 @@ module _ {V : Type 0} (names : List (List ℕ)) (Q : List (Option Msg) → V →
       go true h = h
       go false h = absurd h
 
-  is_of_row : (b : Bool) (n : ℕ) (m : Msg) → head_of m ≡ seq_head b n → (v : V) × OfFields names (λ fs. Q fs v) m → (v : V) × OfRow (Gives Q v) m
-  is_of_row b n nil e h = absurd h.1
-  is_of_row b n (truth t) e h = absurd h.1
-  is_of_row b n (whole z) e h = absurd h.1
-  is_of_row b n (float32 k) e h = absurd h.1
-  is_of_row b n (float64 k) e h = absurd h.1
-  is_of_row b n (text s) e h = absurd h.1
+  pub is_of_row : (b : Bool) (n : ℕ) (m : Msg) → head_of m ≡ seq_head b n → (v : V) × OfFields names (λ fs. Q fs v) m → (v : V) × OfRow (Gives Q v) m
   is_of_row b n (bin s) e h = (h.0, when_given (numbers s) h.0 h.1)
   is_of_row b n (list ms) e h = (h.0, when_given ms h.0 h.1)
   is_of_row true n (map ps) e h = absurd (cc)
   is_of_row false n (map ps) e h = absurd (cc)
-  is_of_row b n (extension tag s) e h = absurd h.1
+  is_of_row b n m e h = absurd h.1
 
-  module _ (n : ℕ) (counted : (fs : List (Option Msg)) (v : V) → Q fs v → length fs ≡ n) where
-    pub gives_counted : (v : V) (ms : Msgs) → Gives Q v ms → count ms ≡ n
-    gives_counted v ms h = sym (length_given ms) ∙ counted (given_all ms) v h
+  module _ (n : ℕ) (counted : (fs : List (Option Msg)) (v : V) → Q fs v → length fs ≡ n) (many : length names ≡ n) where
+    are_given : (ms : Msgs) (v : V) → Gives Q v ms → MatchOption (given names ms) ⊥ (λ fs. Q fs v)
+    are_given ms v h =
+        let e : count ms ≡ length names = gives_counted Q n counted v ms h ∙ sym many in
+        let t : nat_eq (count ms) (length names) ≡ true = ap (λ z. nat_eq z (length names)) e ∙ nat_eq_same (length names) in
+        subst (λ b. MatchOption (cond b (Some (given_all ms)) None) ⊥ (λ fs. Q fs v)) (sym t) h
 
-    module _ (many : length names ≡ n) where
-      are_given : (ms : Msgs) (v : V) → Gives Q v ms → MatchOption (given names ms) ⊥ (λ fs. Q fs v)
-      are_given ms v h =
-          let e : count ms ≡ length names = gives_counted v ms h ∙ sym many in
-          let t : nat_eq (count ms) (length names) ≡ true = ap (λ z. nat_eq z (length names)) e ∙ nat_eq_same (length names) in
-          subst (λ b. MatchOption (cond b (Some (given_all ms)) None) ⊥ (λ fs. Q fs v)) (sym t) h
-
-      of_row : (v : V) (m : Msg) → OfRow (Gives Q v) m → OfFields names (λ fs. Q fs v) m
-      of_row v nil h = h
-      of_row v (truth t) h = h
-      of_row v (whole z) h = h
-      of_row v (float32 k) h = h
-      of_row v (float64 k) h = h
-      of_row v (text s) h = h
-      of_row v (bin s) h = are_given (numbers s) v h
-      of_row v (list ms) h = are_given ms v h
-      of_row v (map ps) h = absurd h
-      of_row v (extension tag s) h = h
-
-      module _ {R C : Type 0} (g : Ghosts R) (old : Deserializer R C) (start mid : SeqAccess R C) (o : Opens g old start) (last : Deserializer R C) where
-        listed_widen : (e : Error) → Lawful g (λ m v. OfRow (Gives Q v) m) old last (Err e) → Lawful g (λ m v. OfFields names (λ fs. Q fs v) m) old last (Err e)
-        listed_widen e l = lawful_slow g (λ m v. OfRow (Gives Q v) m) (λ m v. OfFields names (λ fs. Q fs v) m) old start.de.now last e
-            (seq_head start.bytes start.left) o.head (is_of_row start.bytes start.left) l
-
-        pub listed_refused : (e : Error) → FailsParts g (Gives Q) start mid e → last ≡ mid.de.now
-            → Lawful g (λ m v. OfFields names (λ fs. Q fs v) m) old last (Err e)
-        listed_refused e f q = listed_widen e (seq_parts g (Gives Q) old start mid o last e f q)
-
-        module _ (v : V) (t : TakesParts g (Gives Q) start mid v) where
-          pub listed_done : mid.left ≡ 0 → last ≡ record mid.de.now { failed = false } → Lawful g (λ m v. OfFields names (λ fs. Q fs v) m) old last (Ok v)
-          listed_done z q = lawful_ok g (λ m v. OfRow (Gives Q v) m) (λ m v. OfFields names (λ fs. Q fs v) m) old last v v (of_row v)
-              (seq_done g (Gives Q) old start mid t.trees o t.run last v t.value z q)
-
-          pub listed_over : (e : Error) → 0 < mid.left → last ≡ mid.de.now → Lawful g (λ m v. OfFields names (λ fs. Q fs v) m) old last (Err e)
-          listed_over e l q = listed_widen e (seq_over g (Gives Q) old start mid t.trees o t.run last e l q n gives_counted v t.value)
+    pub of_row : (v : V) (m : Msg) → OfRow (Gives Q v) m → OfFields names (λ fs. Q fs v) m
+    of_row v (bin s) h = are_given (numbers s) v h
+    of_row v (list ms) h = are_given ms v h
+    of_row v m h = absurd h

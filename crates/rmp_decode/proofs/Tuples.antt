@@ -1,7 +1,7 @@
 -- Tuples, read as the fields of a struct that is a list.
-use Rattle.std.proofs.Common.{◌≡◌, refl, subst, ℕ, List, Option, None, Some, Bool, true, false, ◌||◌}
+use Rattle.std.proofs.Common.{◌≡◌, subst, ℕ, List, Option, None, Some, Bool, true, false, ◌||◌}
 use Rattle.rmp_wire.specs.declared.source.Source.{Ghosts}
-use Rattle.rmp_wire.specs.Msg.{Msg, nil, truth, whole, float32, float64, text, bin, list, map, extension, Msgs, no_items, item}
+use Rattle.rmp_wire.specs.Msg.{Msg, bin, list, Msgs, no_items, item}
 use Rattle.rmp_decode.specs.Fields.{Field, NoField, given_all}
 use Rattle.rmp_decode.specs.Rows.{AndThen, NoMore}
 use Rattle.rmp_decode.specs.Law.{Readable}
@@ -13,16 +13,9 @@ use Rattle.rmp_decode.proofs.Seqs.{parts_element}
 
 -- what is a row of such elements is one of others
 pub row_as : (P Q : Msgs → Type 0) → ((ms : Msgs) → P ms → Q ms) → (m : Msg) → OfRow P m → OfRow Q m
-row_as P Q f nil h = h
-row_as P Q f (truth t) h = h
-row_as P Q f (whole z) h = h
-row_as P Q f (float32 n) h = h
-row_as P Q f (float64 n) h = h
-row_as P Q f (text s) h = h
 row_as P Q f (bin s) h = f (numbers s) h
 row_as P Q f (list ms) h = f ms h
-row_as P Q f (map ps) h = h
-row_as P Q f (extension tag s) h = h
+row_as P Q f m h = h
 
 -- fields that are all there are elements
 pub each_field : (P : Msg → Type 0) (A : Type 0) (Q : List (Option Msg) → Type 0) (Q' : Msgs → Type 0) → ((ms : Msgs) → Q (given_all ms) → Q' ms)
@@ -44,14 +37,10 @@ pub field_none : (ms : Msgs) → NoMore ms → NoField (given_all ms)
 field_none no_items h = h
 field_none (item m ms) h = h
 
--- none of them takes memory
-pub or_each : (a b c : Bool) → (b ≡ false → c ≡ false) → (a || b) ≡ false → (a || c) ≡ false
-or_each true b c f h = h
-or_each false b c f h = f h
-
-pub or_none : (a : Bool) → a ≡ false → (a || false) ≡ false
-or_none true h = h
-or_none false h = refl
+-- where none of them takes memory, none of as many fields does
+pub or_last : (f : Bool → Bool) (a : Bool) → f a ≡ false → f (a || false) ≡ false
+or_last f true h = h
+or_last f false h = h
 
 pub row_narrower : (spells : List ℕ → Msg → Type 0) (P Q : Msgs → Type 0) (room n : ℕ) (known : Option (List ℕ)) → ((ms : Msgs) → Q ms → P ms)
     → RefusesRow spells P room n known → RefusesRow spells Q room n known
@@ -68,6 +57,11 @@ row_narrower spells P Q room n (Some xs) f r = λ a. r
       fits = a.fits;
       holds = f a.trees a.holds;
     })
+
+-- none of these parts is there, and so none of others
+pub parts_fail_as : {R C V W : Type 0} {g : Ghosts R} {P : V → Msgs → Type 0} {Q : W → Msgs → Type 0} {old new : SeqAccess R C} {e : Error}
+    → ((ms : Msgs) → (w : W) × Q w ms → (v : V) × P v ms) → FailsParts g P old new e → FailsParts g Q old new e
+parts_fail_as f p = record { stays = p.stays; failed = p.failed; err = λ m k. row_narrower _ _ _ _ _ _ f (p.err m k) }
 
 -- after the parts that were read there was no element more, or it was refused
 module _ {R C V W : Type 0} (g : Ghosts R) (reads : C → Msg → V → Type 0) (Q : W → Msgs

@@ -6,20 +6,31 @@ use Rattle.rmp_wire.specs.declared.head.Head.TheVariants as head
 use Rattle.rmp_wire.specs.declared.marker.Marker.{Marker}
 use Rattle.rmp_wire.specs.declared.source.Source.{Ghosts}
 use Rattle.rmp_wire.specs.Canonical.{heads_of, SpellsAs}
-use Rattle.rmp_wire.specs.Msg.{Msg, list, map, no_items, no_pairs, depth}
+use Rattle.rmp_wire.specs.Msg.{Msg, nil, list, map, no_items, no_pairs, depth}
 use Rattle.rmp_wire.specs.Spelling.{head_of}
 use Rattle.rmp_decode.specs.Law.{Lawful, Readable, ReadsHead}
+use Rattle.rmp_decode.specs.Consumed.{no_payload}
+use Rattle.rmp_decode.specs.Leaves.{HoldsNone, ReadsLeaf}
+use Rattle.rmp_decode.specs.Opening.{NestsTooDeep}
 use Rattle.rmp_decode.specs.State.{room_of, Stays}
 use Rattle.rmp_decode.specs.Units.{IsExtName, IsNewtype, IsNothing, not_nothing}
 use Rattle.rmp_decode.specs.declared.deserializer.Deserializer.{Deserializer}
+use Rattle.rmp_decode.specs.declared.deserializer.heads.Levels.TheVariants.{Lists}
 use Rattle.rmp_decode.specs.declared.error.Error.{Error}
 use Rattle.rmp_decode.specs.declared.error.Error.TheVariants.{DepthLimitExceeded, Syntax}
 use Rattle.rmp_decode.specs.declared.text.Text.TheVariants.{InvalidType}
+use Rattle.rmp_decode.proofs.Consumed.{leaves_head}
+use Rattle.rmp_decode.proofs.Exactness.{exact_head}
 use Rattle.rmp_decode.proofs.Laws.{lawful_err, lawful_ok, refused}
 use Rattle.rmp_decode.proofs.NothingAccepted.{refuses_all}
+use Rattle.rmp_decode.proofs.Opening.{deep_refused}
 
 abbrev pub NothingIs : Msg → Unit {0} → Type 0
 NothingIs m u = IsNothing m
+
+-- a head that isn't nil's begins no nil
+pub not_nil : (h : Head) → ((u : Unit {0}) → h ≡ head.Nil → ⊥) → HoldsNone (λ m (u : Unit {0}). m ≡ nil) h
+not_nil h f m r e = f tt (sym e ∙ ap head_of r.1)
 
 -- a list that isn't empty is another
 pub not_empty : (h : Head) (n : ℕ) → h ≡ head.Array n → 0 < n → (m : Msg) → Readable NothingIs m → head_of m ≡ h → ⊥
@@ -89,6 +100,19 @@ module _ {R C : Type 0} (g : Ghosts R) (old mid : Deserializer R C) (p : Marker 
     is_second = refl;
     is_whole = sym (append-nil h.ok.bytes);
   }) l q r
+
+-- a list would nest too deep
+pub deep_list : {R C : Type 0} (g : Ghosts R) (old new : Deserializer R C) (e : Error) → NestsTooDeep g Lists old new e
+    → ReadsLeaf g NothingIs (not_nothing (room_of old)) old new (Err e)
+deep_list g old new e d =
+    let h = d.begun in
+    record {
+      law = deep_refused g Lists old new d.next h d.level (omega (arith, d.deep)) NothingIs e;
+      exact = λ _. exact_head _ (not_nothing (room_of old)) _ _ _ d.next.0 d.next.1 _ h.sound h.marked
+          (d.limit ∙ deep_is _ d.next.0 _ d.level.0 d.level.1 (omega (arith, d.deep)));
+      taken = λ _. leaves_head g no_payload old new d.next e h (λ w. w);
+      memory = λ q. absurd (let l = d.limit in cc);
+    }
 
 -- ---- newtype structs
 

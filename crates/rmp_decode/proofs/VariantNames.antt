@@ -1,40 +1,12 @@
 -- What the opening of a variant says, from what the read of its name says.
-use Rattle.std.proofs.Common.{
-  ◌≡◌,
-  ◌∙◌,
-  sym,
-  ap,
-  subst,
-  refl,
-  inl,
-  inr,
-  ℕ,
-  suc,
-  ℤ,
-  pos,
-  negsuc,
-  ◌<◌,
-  ◌≤◌,
-  arith,
-  List,
-  [],
-  ◌∷◌,
-  ◌++◌,
-  length,
-  nat_lt,
-  Bool,
-  true,
-  false,
-  cond,
-  Option,
-  None,
-  Some,
-  IfSome,
-  MatchOption,
-  Ok,
-  Err,
-  Bor,
-}
+use Rattle.rmp_decode.proofs.Payloads.{whole_alone}
+use Rattle.rmp_decode.proofs.Leaves.{held_read}
+use Rattle.rmp_decode.proofs.Laws.{refused_head, refused_none}
+use Rattle.rmp_decode.specs.Refusing.{Setting, setting_of}
+use Rattle.rmp_decode.specs.Parts.{TakesPart}
+use Rattle.rmp_decode.specs.MapRefusing.{RefusesPart}
+use Rattle.std.proofs.Common.{◌≡◌, ◌∙◌, sym, ap, subst, refl, inl, inr, ℕ, suc, ℤ, pos, negsuc, ◌<◌, ◌≤◌, arith, List, [], ◌∷◌, ◌++◌, length, nat_lt}
+use Rattle.std.proofs.Common.{Bool, true, false, cond, Option, None, Some, IfSome, MatchOption, Ok, Err, Bor, ◌≢◌, max}
 use Rattle.std.proofs.lemmas.List.{length-append}
 use Rattle.std.proofs.lemmas.Bool.{cases_lt, le-ltb}
 use Rattle.std.specs.Io.KnownBytes.{Consumes}
@@ -53,21 +25,22 @@ use Rattle.rmp_wire.specs.Slices.{Blames}
 use Rattle.rmp_wire.specs.Sources.{IsShort}
 use Rattle.rmp_wire.specs.Spelling.{head_of}
 use Rattle.rmp_decode.specs.Content.{RefusesContent, IsRawHead}
-use Rattle.rmp_decode.specs.Exact.{BeginsWith}
+use Rattle.rmp_decode.specs.Exact.{BeginsWith, TellsFault}
 use Rattle.rmp_decode.specs.Kinds.{raw_msg, raw_head}
-use Rattle.rmp_decode.specs.Law.{Refuses, Readable, Explains, Lawful, ReadsHead, TakesHead}
+use Rattle.rmp_decode.specs.Law.{Refuses, Readable, Explains, Lawful, ReadsHead, TakesHead, IsFailedBefore}
 use Rattle.rmp_decode.specs.Names.{bytes_of, place_below, place_of, name_of}
 use Rattle.rmp_decode.specs.Opening.{FailsAtHead}
-use Rattle.rmp_decode.specs.Pieces.{Blamed}
-use Rattle.rmp_decode.specs.State.{left, faults_of, room_of, Stays}
-use Rattle.rmp_decode.specs.VariantNames.{IsPlace, StartsWithNoName, other_name, unknown_name, RefusesName}
-use Rattle.rmp_decode.specs.Variants.{OfVariant, IsVariant, placed, FailsToOpenVariant, IsVariantHead, other_variant, not_variant}
+use Rattle.rmp_decode.specs.Pieces.{Blamed, RefusesPiece}
+use Rattle.rmp_decode.specs.State.{left, faults_of, room_of, Stays, failed_of}
+use Rattle.rmp_decode.specs.VariantNames.{IsPlace, StartsWithNoName, other_name, unknown_name, RefusesName, TakesName, ReadsPlace}
+use Rattle.rmp_decode.specs.Variants.{OfVariant, IsVariant, placed, IsVariantHead, other_variant, not_variant, NamesVariant, NamesNone}
+use Rattle.rmp_decode.specs.Variants.{RefusesVariant, RefusesVariantOf}
 use Rattle.rmp_decode.specs.declared.deserializer.Deserializer.{Deserializer}
 use Rattle.rmp_decode.specs.declared.deserializer.heads.Levels.TheVariants.{Pairs}
 use Rattle.rmp_decode.specs.declared.error.Error.{Error}
-use Rattle.rmp_decode.specs.declared.error.Error.TheVariants.{LengthMismatch, DepthLimitExceeded}
-use Rattle.rmp_decode.proofs.ContentErrors.{content_none, content_other, content_differ, same_front}
-use Rattle.rmp_decode.proofs.Contents.{raw_content, content_refused}
+use Rattle.rmp_decode.specs.declared.error.Error.TheVariants.{LengthMismatch, DepthLimitExceeded, OutOfMemory}
+use Rattle.rmp_decode.proofs.ContentErrors.{content_none, content_other, content_differ, same_front, content_error, raw_len, raw_wanted}
+use Rattle.rmp_decode.proofs.Contents.{raw_content, content_refused, content_read}
 use Rattle.rmp_decode.proofs.Exactness.{start_once, none_told}
 use Rattle.rmp_decode.proofs.Opening.{deep_refuses}
 use Rattle.rmp_decode.proofs.Names.{name_of_raw, length_bytes}
@@ -185,14 +158,6 @@ not_named t names n (Some xs) f = λ s r q l h.
     let same : Some (place_of names s) ≡ Some (Some h.0) = sym (name_of_raw names t s) ∙ h.1.0 in
     f s r h.0 q l (cc)
 
-module _ {R C : Type 0} (g : Ghosts R) (names : List (List ℕ)) (old mid : Deserializer R C) (p : Marker × Head) (h : ReadsHead g old mid (Ok p)) where
-  -- the text or the bytes are no name
-  pub name_refused : (t : Bool) (n : ℕ) (new : Deserializer R C) (e : Error) → p.1 ≡ raw_head t n
-      → Explains e (g.faults mid.reader) (g.faults new.reader) (StartsWithNoName names n (g.ahead mid.reader)) → new.failed ≡ true → Stays g mid new
-      → Lawful g (IsPlace names) old new (Err e)
-  name_refused t n new e i x d st = lawful_after g (Named t names) (IsPlace names) old mid new e p.1 h.ok (λ m j r. (r.0, (r.1, raw_of_head t n m (j ∙ i))))
-      (content_refused (raw_content t) g (Named t names) old mid new p h n e i (λ m r. r.1.1) (λ o k. not_named t names n (g.ahead mid.reader) (x o k)) d st)
-
 pub number_named : (names : List (Bor (List ℕ))) (m : Msg) (n : ℕ) (z : ℤ) → name_of (bytes_of names) m ≡ Some (Some n) → head_of m ≡ Whole z
     → place_below (length (bytes_of names)) z ≡ Some (Some n)
 number_named names nil n z e i = absurd (cc)
@@ -228,7 +193,8 @@ number_is_below k (pos i) n e = elim (cases_lt i k)
     go false l e = absurd (cc)
 number_is_below k (negsuc i) n e = absurd (cc)
 
-place_is_below : (names : List (List ℕ)) (m : Msg) (n : ℕ) → IsPlace names m n → n < length names
+-- a place is below the count of the names
+pub place_is_below : (names : List (List ℕ)) (m : Msg) (n : ℕ) → IsPlace names m n → n < length names
 place_is_below names nil n e = absurd (cc)
 place_is_below names (truth b) n e = absurd (cc)
 place_is_below names (whole z) n e = number_is_below (length names) z n e
@@ -240,7 +206,7 @@ place_is_below names (list ms) n e = absurd (cc)
 place_is_below names (map ps) n e = absurd (cc)
 place_is_below names (extension tag s) n e = absurd (cc)
 
--- a place is below the count of the names
+-- the same of borrowed names
 pub place_below_names : (names : List (Bor (List ℕ))) (m : Msg) (n : ℕ) → IsPlace (bytes_of names) m n → n < length names
 place_below_names names m n e = let l = place_is_below (bytes_of names) m n e in omega (arith, l, length_bytes names)
 
@@ -256,6 +222,95 @@ name_flat names (bin s) r = refl
 name_flat names (list ms) r = absurd (let e = r.1 in cc)
 name_flat names (map ps) r = absurd (let e = r.1 in cc)
 name_flat names (extension tag s) r = absurd (let e = r.1 in cc)
+
+-- ---- what happened at a name, each once
+
+module _ {R C : Type 0} (g : Ghosts R) (names : List (List ℕ)) (lends : Bool) (old mid : Deserializer R C) where
+  -- no head was there, or a read had failed before
+  pub place_none : (e : Error) → ReadsHead g old mid (Err e) → ReadsPlace g names lends old mid (Err e)
+  place_none e h = record {
+    law = refused_none g (IsPlace names) old mid e h;
+    exact = λ o. content_none _ IsRawHead other_name unknown_name _ _ _ e (h.ends o);
+    memory = λ _. h.memory;
+  }
+
+  module _ (p : Marker × Head) (h : ReadsHead g old mid (Ok p)) where
+    -- the head is neither a text's or that of bytes, nor a number that is a place
+    pub place_other : (e : Error) → (IsRawHead p.1 → ⊥) → ((m : Msg) → Readable (IsPlace names) m → head_of m ≡ p.1 → ⊥) → e ≡ other_name p.0 p.1
+        → e ≢ OutOfMemory → ReadsPlace g names lends old mid (Err e)
+    place_other e n f i y = record {
+      law = refused_head g (IsPlace names) old mid p e h f;
+      exact = λ _. content_other _ IsRawHead other_name unknown_name _ _ _ p.0 p.1 e h.sound h.marked n i;
+      memory = λ _. y;
+    }
+
+    -- the head is a number that is a place
+    pub place_number : (z : ℤ) (n : ℕ) → p.1 ≡ Whole z → IsPlace names (whole z) n → ReadsPlace g names lends old (record mid { failed = false }) (Ok n)
+    place_number z n i k = record { law = held_read g (IsPlace names) old mid p h _ n (whole_alone (IsPlace names) p.1 z n i k) refl; exact = λ _. tt; memory = λ _. tt }
+
+    module _ (t : Bool) (n : ℕ) (i : p.1 ≡ raw_head t n) (last : R) (stays : g.place last ≡ g.place mid.reader) where
+      stay : (d : Deserializer R C) → d ≡ record mid { reader = last; failed = d.failed } → Stays g mid d
+      stay d e = rw e (record { config = refl; room = refl; limit = refl; strict = refl; place = stays })
+
+      -- the text or the bytes are a name
+      pub place_read : (place : ℕ) → TakesName names n (g.ahead mid.reader) (g.ahead last) place → g.faults last ≡ g.faults mid.reader
+          → ReadsPlace g names lends old (record mid { reader = last; failed = false }) (Ok place)
+      place_read place o s = record {
+        law = content_read (raw_content t) g (IsPlace names) old mid _ p h o.bytes n place i o.long o.are_bytes o.taken refl refl s (stay _ refl)
+            (name_of_raw names t o.bytes ∙ ap (λ (z : Option ℕ). Some z) o.place);
+        exact = λ _. tt;
+        memory = λ _. tt;
+      }
+
+      -- they aren't, or couldn't be had
+      pub place_refused : (e : Error) → Explains e (g.faults mid.reader) (g.faults last) (StartsWithNoName names n (g.ahead mid.reader))
+          → Explains e (g.faults mid.reader) (g.faults last) (RefusesPiece n (unknown_name (raw_head t n)) (g.ahead mid.reader) e)
+          → TellsFault (g.faults mid.reader) (g.faults last) e → (lends ≡ true → e ≢ OutOfMemory)
+          → ReadsPlace g names lends old (record mid { reader = last }) (Err e)
+      place_refused e x k f y = record {
+        law = lawful_after g (Named t names) (IsPlace names) old mid _ e p.1 h.ok (λ m j r. (r.0, (r.1, raw_of_head t n m (j ∙ i))))
+            (content_refused (raw_content t) g (Named t names) old mid _ p h n e i (λ m r. r.1.1) (λ o q. not_named t names n (g.ahead mid.reader) (x o q))
+            h.failed (stay _ refl));
+        exact = λ _. content_error g IsRawHead other_name unknown_name old mid (g.faults last) p (raw_head t n) n e h i (raw_len t n) (raw_wanted t n) k f;
+        memory = y;
+      }
+
+-- ---- a name that is a part
+
+-- a name is read in any room
+module _ {R C : Type 0} (g : Ghosts R) (names : List (List ℕ)) (lends : Bool) (inner : ℕ) (old new : Deserializer R C) where
+  pub place_taken : (n : ℕ) → ReadsPlace g names lends (record old { failed = false }) new (Ok n)
+      → TakesPart g (IsPlace names) (max 1 inner) old (record new { failed = true }) n
+  place_taken n k =
+      let l = k.law in
+      let r = l.ok in
+      record {
+        bytes = r.bytes;
+        tree = r.tree;
+        takes = r.takes;
+        goes_on = r.goes_on;
+        spelled = r.spelled;
+        fits = let flat = name_flat names r.tree (n, r.value) in omega (arith, flat);
+        value = r.value;
+        stays = record { config = l.stays.config; room = l.stays.room; limit = l.stays.limit; strict = l.stays.strict; place = l.stays.place };
+        faults_same = l.sound;
+        clean = l.clean;
+        marked = refl;
+      }
+
+  pub place_missed : (human : Bool) (e : Error) → ReadsPlace g names lends (record old { failed = false }) new (Err e)
+      → RefusesPart g human lends (IsPlace names) (λ s. RefusesName s.strict) (lends ≡ true) (max 1 inner) old new e
+  place_missed human e k =
+      let l = k.law in
+      record {
+        fails = record {
+          stays = record { config = l.stays.config; room = l.stays.room; limit = l.stays.limit; strict = l.stays.strict; place = l.stays.place };
+          failed = l.failed;
+          err = λ n q. refuses_leaves old.strict (Readable (IsPlace names)) (max 1 inner) (room_of old) (left g old) (name_flat names) (omega arith) (l.err refl n q);
+        };
+        named = k.exact refl;
+        memory = k.memory;
+      }
 
 -- ---- variants
 
@@ -347,76 +402,117 @@ alone_refused strict room before after (Some xs) m h e s f r =
 
 -- ---- no variant can be opened
 
-module _ {R C : Type 0} (g : Ghosts R) (names : List (List ℕ)) (old new : Deserializer R C) (e : Error) where
-  -- no message is there
-  no_variant_begins : ReadsHead g old new (Err e) → FailsToOpenVariant g names old new e
-  no_variant_begins h = record {
-    failed = h.failed;
-    stays = h.stays;
-    before = h.before;
-    err = λ o n k. refuses_none _ _ _ _ (h.err o n k);
-    exact = λ o human lends. inl (content_none old.strict IsVariantHead other_variant (not_variant (room_of old)) _ _ _ e (h.ends o));
-    named = λ o human lends. inl (
-      content_none old.strict IsVariantHead other_variant (not_variant (room_of old)) _ _ _ e (h.ends o),
-      λ n k. refuses_none _ _ _ _ (h.err o n k),
-    );
+-- what selects no name is refused so, whatever the names are
+any_name : (names : List (List ℕ)) (s : Setting) (before after : ℕ) (known : Option (List ℕ)) (e : Error) → RefusesVariantOf names s before after known e
+    → RefusesVariant s before after known e
+any_name names s before after known e r = elim r [
+  | inl p ↦ inl p.0
+  | inr m ↦ inr (record {
+    inner = m.inner;
+    many = m.many;
+    bytes = m.bytes;
+    rest = m.rest;
+    takes = m.takes;
+    is_head = m.is_head;
+    room_of = m.room_of;
+    refused = (m.refused.0, m.refused.1);
+  })
+]
+
+module _ {R C : Type 0} (g : Ghosts R) (names : List (Bor (List ℕ))) (lends : Bool) (old new : Deserializer R C) (e : Error) where
+  pub none_opened : new.failed ≡ true → Stays g old new → (old.failed ≡ true → IsFailedBefore e × (new ≡ old))
+      → (old.failed ≡ false → Explains e (faults_of g old) (faults_of g new) (Refuses (SpellsAs old.strict) (IsVariant (bytes_of names)) (room_of old) (left g old)))
+      → (old.failed ≡ false → (human lends : Bool)
+      → RefusesVariantOf (bytes_of names) (setting_of human lends old) (faults_of g old) (faults_of g new) (left g old) e)
+      → (lends ≡ true → e ≢ OutOfMemory) → NamesNone g names lends old new e
+  none_opened f s b r n m = record {
+    fails = record { failed = f; stays = s; before = b; err = r; exact = λ o human lent. any_name _ _ _ _ _ _ (n o human lent); named = n };
+    memory = m;
   }
 
+  -- no message is there
+  no_variant_begins : ReadsHead g old new (Err e) → NamesNone g names lends old new e
+  no_variant_begins h = none_opened h.failed h.stays h.before (λ o n k. refuses_none _ _ _ _ (h.err o n k))
+      (λ o human lent. inl (
+        content_none old.strict IsVariantHead other_variant (not_variant (room_of old)) _ _ _ e (h.ends o),
+        λ n k. refuses_none _ _ _ _ (h.err o n k),
+      ))
+      (λ _. h.memory)
+
   module _ (p : Marker × Head) (h : ReadsHead g old new (Ok p)) where
+    fresh : {A : Type 0} → old.failed ≡ true → A
+    fresh b = absurd (let o = h.fresh in cc)
+
     no_name : (n : ℕ) → p.1 ≡ Map n → Explains e (faults_of g old) (faults_of g new)
-        (Refuses (SpellsAs old.strict) (Readable (IsPlace names)) (room_of old) (left g old))
-    no_name n i = λ _ _. refuses_head _ (Readable (IsPlace names)) (room_of old) (left g old) (left g new) h.ok.bytes p.1 h.ok.takes h.ok.is_head
-        (λ m v j. map_no_name names m n (j ∙ i) v)
+        (Refuses (SpellsAs old.strict) (Readable (IsPlace (bytes_of names))) (room_of old) (left g old))
+    no_name n i = λ _ _. refuses_head _ (Readable (IsPlace (bytes_of names))) (room_of old) (left g old) (left g new) h.ok.bytes p.1 h.ok.takes h.ok.is_head
+        (λ m v j. map_no_name (bytes_of names) m n (j ∙ i) v)
 
     -- a map of another count of pairs is
-    pub other_count : (n : ℕ) → p.1 ≡ Map n → (n ≡ 1 → ⊥) → e ≡ LengthMismatch n → FailsToOpenVariant g names old new e
-    other_count n i f q = record {
-      failed = h.failed;
-      stays = h.stays;
-      before = λ b. absurd (let o = h.fresh in cc);
-      err = λ _ _ _. refuses_head _ (IsVariant names) (room_of old) (left g old) (left g new) h.ok.bytes p.1 h.ok.takes h.ok.is_head
-          (λ m v j. f (one_pair names m n v (j ∙ i)));
-      exact = λ _ human lends. inl (content_other old.strict IsVariantHead other_variant (not_variant (room_of old)) _ _ _ p.0 p.1 e h.sound h.marked
-          (λ w. f (subst IsVariantHead i w)) (q ∙ ap (other_variant p.0) (sym i)));
-      named = λ _ human lends. inl (
-        content_other old.strict IsVariantHead other_variant (not_variant (room_of old)) _ _ _ p.0 p.1 e h.sound h.marked
-            (λ w. f (subst IsVariantHead i w)) (q ∙ ap (other_variant p.0) (sym i)),
-        no_name n i,
-      );
-    }
+    pub other_count : (n : ℕ) → p.1 ≡ Map n → (n ≡ 1 → ⊥) → e ≡ LengthMismatch n → NamesNone g names lends old new e
+    other_count n i f q = none_opened h.failed h.stays fresh
+        (λ _ _ _. refuses_head _ (IsVariant (bytes_of names)) (room_of old) (left g old) (left g new) h.ok.bytes p.1 h.ok.takes h.ok.is_head
+        (λ m v j. f (one_pair (bytes_of names) m n v (j ∙ i))))
+        (λ _ human lent. inl (
+          content_other old.strict IsVariantHead other_variant (not_variant (room_of old)) _ _ _ p.0 p.1 e h.sound h.marked
+              (λ w. f (subst IsVariantHead i w)) (q ∙ ap (other_variant p.0) (sym i)),
+          no_name n i,
+        ))
+        (λ _ y. absurd (cc))
 
     -- a map of one pair would nest too deep
-    variant_too_deep : p.1 ≡ Map 1 → room_of old ≤ 1 → e ≡ DepthLimitExceeded → FailsToOpenVariant g names old new e
-    variant_too_deep i l q = record {
-      failed = h.failed;
-      stays = h.stays;
-      before = λ b. absurd (let o = h.fresh in cc);
-      err = λ _ _ _. deep_refuses g Pairs old new p h i l (IsVariant names);
-      exact = λ _ human lends. inl (content_differ old.strict IsVariantHead other_variant (not_variant (room_of old)) _ _ _ p.0 p.1 (Map 1) e h.marked i refl
-          refl (λ s. (omega (arith, l), q)) (none_told _ _ _ h.sound));
-      named = λ _ human lends. inl (
-        content_differ old.strict IsVariantHead other_variant (not_variant (room_of old)) _ _ _ p.0 p.1 (Map 1) e h.marked i refl
-            refl (λ s. (omega (arith, l), q)) (none_told _ _ _ h.sound),
-        no_name 1 i,
-      );
-    }
+    variant_too_deep : p.1 ≡ Map 1 → room_of old ≤ 1 → e ≡ DepthLimitExceeded → NamesNone g names lends old new e
+    variant_too_deep i l q = none_opened h.failed h.stays fresh (λ _ _ _. deep_refuses g Pairs old new p h i l (IsVariant (bytes_of names)))
+        (λ _ human lent. inl (
+          content_differ old.strict IsVariantHead other_variant (not_variant (room_of old)) _ _ _ p.0 p.1 (Map 1) e h.marked i refl
+              refl (λ s. (omega (arith, l), q)) (none_told _ _ _ h.sound),
+          no_name 1 i,
+        ))
+        (λ _ y. absurd (cc))
 
-  pub variant_fails : FailsAtHead g Pairs old new e → FailsToOpenVariant g names old new e
+  pub variant_fails : FailsAtHead g Pairs old new e → NamesNone g names lends old new e
   variant_fails f = elim f [ inl h ↦ no_variant_begins h | inr d ↦ variant_too_deep d.next d.begun d.level (omega (arith, d.deep)) d.limit ]
 
--- what is there alone is no name
-pub no_name_alone : {R C : Type 0} (g : Ghosts R) (names : List (List ℕ)) (old mid new : Deserializer R C) (p : Marker × Head) (e : Error)
-    → ReadsHead g old mid (Ok p) → ((n : ℕ) → p.1 ≡ Map n → ⊥) → Lawful g (IsPlace names) old new (Err e)
-    → RefusesName old.strict (faults_of g old) (faults_of g new) (left g old) e → FailsToOpenVariant g names old new e
-no_name_alone g names old mid new p e h f l x = record {
-  failed = l.failed;
-  stays = l.stays;
-  before = λ b. absurd (let o = h.fresh in cc);
-  err = λ o n k. refuses_slow old.strict (Readable (IsPlace names)) (IsVariant names) _ _ (left g mid) h.ok.bytes p.1 h.ok.takes h.ok.is_head
-      (λ m i v. name_alone names m (λ k j. f k (sym i ∙ j)) v) (l.err o n k);
-  exact = λ _ human lends. inl (alone_refused old.strict (room_of old) (faults_of g old) (faults_of g new) (left g old) p.0 p.1 e h.marked f x);
-  named = λ o human lends. inl (
-    alone_refused old.strict (room_of old) (faults_of g old) (faults_of g new) (left g old) p.0 p.1 e h.marked f x,
-    l.err o,
-  );
+  -- what is there alone is no name
+  pub no_name_alone : (mid : Deserializer R C) (p : Marker × Head) → ReadsHead g old mid (Ok p) → ((n : ℕ) → p.1 ≡ Map n → ⊥)
+      → ReadsPlace g (bytes_of names) lends old new (Err e) → NamesNone g names lends old new e
+  no_name_alone mid p h f k =
+      let l = k.law in
+      none_opened l.failed l.stays (λ b. absurd (let o = h.fresh in cc))
+      (λ o n q. refuses_slow old.strict (Readable (IsPlace (bytes_of names))) (IsVariant (bytes_of names)) _ _ (left g mid) h.ok.bytes p.1 h.ok.takes h.ok.is_head
+      (λ m i v. name_alone (bytes_of names) m (λ k j. f k (sym i ∙ j)) v) (l.err o n q))
+      (λ o human lent. inl (
+        alone_refused old.strict (room_of old) (faults_of g old) (faults_of g new) (left g old) p.0 p.1 e h.marked f (k.exact o),
+        l.err o,
+      ))
+      k.memory
+
+-- a name alone was read
+pub name_alone_read : {R C : Type 0} (g : Ghosts R) (names : List (Bor (List ℕ))) (lends : Bool) (old new : Deserializer R C) (n inner : ℕ) → old.failed ≡ false
+    → ReadsPlace g (bytes_of names) lends old new (Ok n) → NamesVariant g names true old (record new { failed = true }) inner n
+name_alone_read g names lends old new n inner o k =
+    let l = k.law in
+    let r = l.ok in
+    record {
+      fresh = o;
+      name = record { bytes = r.bytes; tree = r.tree; takes = r.takes; goes_on = r.goes_on; spelled = r.spelled; fits = r.fits; value = r.value };
+      stays = record { config = l.stays.config; room = l.stays.room; limit = l.stays.limit; strict = l.stays.strict; place = l.stays.place };
+      faults_same = l.sound;
+      marked = refl;
+      clean = l.clean;
+      below = place_below_names names r.tree n r.value;
+    }
+
+-- the same where it was buffered
+pub name_alone_taken : {R C : Type 0} (g : Ghosts R) (names : List (Bor (List ℕ))) (old new : Deserializer R C) (n inner : ℕ) → old.failed ≡ false
+    → TakesPart g (IsPlace (bytes_of names)) 1 (failed_of old) new n → NamesVariant g names true old new inner n
+name_alone_taken g names old new n inner o t = record {
+  fresh = o;
+  name = record
+      { bytes = t.bytes; tree = t.tree; takes = t.takes; goes_on = t.goes_on; spelled = t.spelled; fits = omega (arith, t.fits); value = t.value };
+  stays = record { config = t.stays.config; room = t.stays.room; limit = t.stays.limit; strict = t.stays.strict; place = t.stays.place };
+  faults_same = t.faults_same;
+  marked = t.marked;
+  clean = t.clean;
+  below = place_below_names names t.tree n t.value;
 }

@@ -1,31 +1,9 @@
 -- What the read of an enum says, from what the read of a variant says.
-use Rattle.std.proofs.Common.{
-  ◌≡◌,
-  sym,
-  subst,
-  refl,
-  ap,
-  ◌∙◌,
-  inr,
-  arith,
-  ◌+◌,
-  max,
-  true,
-  false,
-  ℕ,
-  List,
-  Bool,
-  Option,
-  None,
-  Some,
-  MatchOption,
-  Result,
-  Ok,
-  Err,
-}
+use Rattle.rmp_decode.specs.MapRefusing.{RefusesPart}
+use Rattle.std.proofs.Common.{◌≡◌, sym, subst, refl, ap, ◌∙◌, inr, arith, ◌+◌, max, true, false, ℕ, List, Bool, Option, None, Some, MatchOption}
+use Rattle.std.proofs.Common.{Result, Ok, Err, ◌<◌, ◌-◌, Bor}
 use Rattle.std.specs.Borrow.{MutBor}
 use Rattle.std.specs.Fn.{FnOnceReturnsAtMut}
-use Rattle.rmp_wire.specs.declared.head.Head.{Head}
 use Rattle.rmp_wire.specs.declared.head.Head.TheVariants.{Map}
 use Rattle.rmp_wire.specs.declared.marker.Marker.{Marker}
 use Rattle.rmp_wire.specs.declared.source.Source.{Ghosts}
@@ -34,25 +12,11 @@ use Rattle.rmp_wire.specs.Spelling.{head_of}
 use Rattle.rmp_wire.specs.Msg.{Msg, nil, truth, whole, float32, float64, text, bin, list, map, extension, Msgs, no_items, item, Pairs, no_pairs, pair, depth}
 use Rattle.rmp_decode.specs.Law.{Refuses, Readable, Explains, Lawful, ReadsHead, TakesHead}
 use Rattle.rmp_decode.specs.Maps.{OfMap, OpensMap, TakesKey, TakesValue}
-use Rattle.rmp_decode.specs.Names.{name_of}
+use Rattle.rmp_decode.specs.Names.{name_of, bytes_of}
 use Rattle.rmp_decode.specs.Parts.{TakesPart, FailsPart}
 use Rattle.rmp_decode.specs.State.{left, faults_of, room_of, Stays}
-use Rattle.rmp_decode.specs.Variants.{
-  variant_of,
-  variant_in,
-  placed,
-  OfVariant,
-  IsVariant,
-  IsAt,
-  IfAt,
-  Content,
-  Bare,
-  TakesKeyOf,
-  TakesNameOf,
-  OpensVariant,
-  FailsToOpenVariant,
-  ContentGiven,
-}
+use Rattle.rmp_decode.specs.Variants.{variant_of, variant_in, placed, OfVariant, IsVariant, IsAt, IfAt, Content, Bare, TakesKeyOf, TakesNameOf}
+use Rattle.rmp_decode.specs.Variants.{OpensVariant, FailsToOpenVariant, ContentGiven, NamesVariant, NamesNone}
 use Rattle.rmp_decode.specs.VariantNames.{IsPlace, RefusesName}
 use Rattle.rmp_decode.specs.With.{Reading, part_reader}
 use Rattle.rmp_decode.specs.declared.deserializer.Deserializer.{Deserializer}
@@ -62,12 +26,12 @@ use Rattle.rmp_decode.specs.declared.access.variant.Variant.{Variant}
 use Rattle.rmp_decode.specs.declared.error.Error.{Error}
 use Rattle.rmp_decode.specs.declared.error.Error.TheVariants.{Syntax}
 use Rattle.rmp_decode.specs.declared.text.Text.TheVariants.{InvalidType}
-use Rattle.rmp_decode.proofs.Laws.{lawful_ok, lawful_err, refused}
+use Rattle.rmp_decode.proofs.Laws.{lawful_ok, lawful_err, refused, stays_then}
 use Rattle.rmp_decode.proofs.MapWiths.{part_taken, part_fails}
 use Rattle.rmp_decode.proofs.Maps.{flat, map_start, map_key, map_value, map_done, map_take}
 use Rattle.rmp_decode.proofs.NothingAccepted.{refuses_narrower, refuses_other}
 use Rattle.rmp_decode.proofs.Rows.{push, append}
-use Rattle.rmp_decode.proofs.VariantNames.{lawful_after, refuses_leaves}
+use Rattle.rmp_decode.proofs.VariantNames.{lawful_after, refuses_leaves, none_opened, place_below_names}
 
 -- ---- the law of a type, from that of a variant
 
@@ -176,57 +140,65 @@ key_is_name names m ks u (pair a b (pair c d ps)) e h = absurd h
 key_is_name names m ks u (pair a b no_pairs) e h = let same : a ≡ m = cc in let x = placed_named b (name_of names a) h
     in (x.0, ap (name_of names) (sym same) ∙ x.1)
 
--- the key is no name
-pub no_name_of_pair : {R C : Type 0} (g : Ghosts R) (names : List (List ℕ)) (b : MutBor (Deserializer R C)) (old mid new : Deserializer R C)
-    (p : Marker × Head) (inner : ℕ) (e : Error) → ReadsHead g old mid (Ok p) → p.1 ≡ Map 1 → room_of old ≡ max 1 inner + 1
-    → FailsPart g (IsPlace names) (max 1 inner) mid new e
-    → RefusesName mid.strict (faults_of g mid) (faults_of g new) (left g mid) e → FailsToOpenVariant g names old new e
-no_name_of_pair g names b old mid new p inner e h i r f x =
-    let t = subst (λ z. TakesHead g z old mid) i h.ok in
-    let o = pair_opens g b old mid inner h.fresh t r h.stays h.sound h.failed h.clean in
-    let start = pair_at b mid 1 false inner in
-    let Q : Unit {0} → ℕ × Option Msg → Type 0 = λ u p. Unit {0} in
-    let l = map_take g (Alone names Q) old start start o new no_items (map_start g start o.opened) (IsPlace names) (pair_at b new 1 false inner) e
-    (omega arith) f refl (key_is_name names) in
-    let w = lawful_after g (λ m u. OfMap (Alone names Q u) m) (λ m u. OfVariant names (Q u) m) old mid new e (Map 1) t (is_alone names Q 1) l in
-    record {
-      failed = f.failed;
-      stays = w.stays;
-      before = λ b. absurd (let o = h.fresh in cc);
-      err = λ o n k. refuses_narrower (SpellsAs old.strict) (Readable (λ m (u : Unit {0}). OfVariant names (Q u) m)) (IsVariant names) _ _ (λ m v. (tt, v))
-          (w.err o n k);
-      exact = λ _ human lends. inr (record {
+module _ {R C : Type 0} (g : Ghosts R) (names : List (Bor (List ℕ))) (old mid new : Deserializer R C) (m : Marker) (h : ReadsHead g old mid (Ok (m, Map 1)))
+    (deep : 1 < old.room) where
+  -- the key is a name
+  pub pair_named : (n : ℕ) → TakesPart g (IsPlace (bytes_of names)) (max 1 (mid.room - 1)) mid new n → NamesVariant g names false old new (old.room - 1) n
+  pair_named n t = record {
+    fresh = h.fresh;
+    name = record {
+      between = mid;
+      head = h.ok;
+      room = omega (arith, deep);
+      stays = h.stays;
+      faults_same = h.sound;
+      marked = h.failed;
+      clean = h.clean;
+      key = subst (λ z. TakesPart g (IsPlace (bytes_of names)) (max 1 (z - 1)) mid new n) h.stays.room t;
+    };
+    stays = stays_then g old mid new h.stays t.stays;
+    faults_same = t.faults_same ∙ h.sound;
+    marked = t.marked;
+    clean = t.clean;
+    below = place_below_names names t.tree n t.value;
+  }
+
+  -- it is none
+  pub pair_refused : (b : MutBor (Deserializer R C)) (human lends : Bool) (e : Error)
+      → RefusesPart g human lends (IsPlace (bytes_of names)) (λ s. RefusesName s.strict) (lends ≡ true) (max 1 (mid.room - 1)) mid new e
+      → NamesNone g names lends old new e
+  pair_refused b human lends e r =
+      let inner = old.room - 1 in
+      let f = subst (λ z. FailsPart g (IsPlace (bytes_of names)) (max 1 (z - 1)) mid new e) h.stays.room r.fails in
+      let room : room_of old ≡ max 1 inner + 1 = omega (arith, deep) in
+      let start = pair_at b mid 1 false inner in
+      let o = pair_opens g b old mid inner h.fresh h.ok room h.stays h.sound h.failed h.clean in
+      let Q : Unit {0} → ℕ × Option Msg → Type 0 = λ u p. Unit {0} in
+      let l = map_take g (Alone (bytes_of names) Q) old start start o new no_items (map_start g start o.opened) (IsPlace (bytes_of names))
+      (pair_at b new 1 false inner) e (omega arith) f refl (key_is_name (bytes_of names)) in
+      let w = lawful_after g (λ m u. OfMap (Alone (bytes_of names) Q u) m) (λ m u. OfVariant (bytes_of names) (Q u) m) old mid new e (Map 1) h.ok
+      (is_alone (bytes_of names) Q 1) l in
+      none_opened g names lends old new e f.failed w.stays (λ b. absurd (let o = h.fresh in cc))
+      (λ o n k. refuses_narrower (SpellsAs old.strict) (Readable (λ m (u : Unit {0}). OfVariant (bytes_of names) (Q u) m)) (IsVariant (bytes_of names)) _ _
+      (λ m v. (tt, v)) (w.err o n k))
+      (λ _ human lent. inr (record {
         inner = max 1 inner;
         many = 1;
-        bytes = t.bytes;
+        bytes = h.ok.bytes;
         rest = left g mid;
-        takes = t.takes;
-        is_head = t.is_head;
-        room_of = r;
+        takes = h.ok.takes;
+        is_head = h.ok.is_head;
+        room_of = room;
         refused = (
           refl,
           subst (λ z. RefusesName z (faults_of g old) (faults_of g new) (left g mid) e) h.stays.strict
-              (subst (λ z. RefusesName mid.strict z (faults_of g new) (left g mid) e) h.sound x),
-        );
-      });
-      named = λ _ human lends. inr (record {
-        inner = max 1 inner;
-        many = 1;
-        bytes = t.bytes;
-        rest = left g mid;
-        takes = t.takes;
-        is_head = t.is_head;
-        room_of = r;
-        refused = (
-          refl,
-          subst (λ z. RefusesName z (faults_of g old) (faults_of g new) (left g mid) e) h.stays.strict
-              (subst (λ z. RefusesName mid.strict z (faults_of g new) (left g mid) e) h.sound x),
-          subst (λ z. Explains e (faults_of g old) (faults_of g new) (Refuses (SpellsAs z) (Readable (IsPlace names)) (max 1 inner) (left g mid)))
+              (subst (λ z. RefusesName mid.strict z (faults_of g new) (left g mid) e) h.sound r.named),
+          subst (λ z. Explains e (faults_of g old) (faults_of g new) (Refuses (SpellsAs z) (Readable (IsPlace (bytes_of names))) (max 1 inner) (left g mid)))
               h.stays.strict (subst (λ z. Explains e z (faults_of g new)
-              (Refuses (SpellsAs mid.strict) (Readable (IsPlace names)) (max 1 inner) (left g mid))) h.sound f.err),
+              (Refuses (SpellsAs mid.strict) (Readable (IsPlace (bytes_of names))) (max 1 inner) (left g mid))) h.sound f.err),
         );
-      });
-    }
+      }))
+      r.memory
 
 -- ---- content
 

@@ -1,7 +1,7 @@
 -- From what open lists and maps want to what they want then.
 use Rattle.std.proofs.Common.{◌≡◌, ◌∙◌, sym, ap, subst, refl, ℕ, suc, ◌<◌, inl, inr, arith, List, [], ◌∷◌, ◌++◌, Bool, append_assoc}
 use Rattle.rmp_wire.specs.Canonical.{heads_of, SpellsAs}
-use Rattle.rmp_wire.specs.Msg.{Msg, whole, list, map, Msgs, no_items, item, count, depth, depth_all}
+use Rattle.rmp_wire.specs.Msg.{Msg, Msgs, no_items, item, count, depth, depth_all}
 use Rattle.rmp_wire.specs.Spelling.{head_of}
 use Rattle.rmp_wire.specs.Taking.{marker_of}
 use Rattle.rmp_wire.proofs.Strict.{heads_differ_as, spelled_once_as}

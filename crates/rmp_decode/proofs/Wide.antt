@@ -1,5 +1,5 @@
 -- Numbers of 128 bits.
-use Rattle.std.proofs.Common.{◌≡◌, ◌∙◌, sym, ap, subst, refl, ℕ, ℤ, pos, negsuc, ◌≤ℤ◌, ◌≤◌, List, [], ◌∷◌, length, slice_index_or, inl, inr, arith, Option, Ok, Err}
+use Rattle.std.proofs.Common.{◌≡◌, sym, ap, subst, refl, ℕ, ℤ, pos, negsuc, ◌≤ℤ◌, ◌≤◌, List, [], ◌∷◌, length, slice_index_or, inl, inr, arith, Option, Ok}
 use Rattle.std.proofs.lemmas.Int.{ints}
 use Rattle.rmp_wire.specs.declared.head.Head.{Head}
 use Rattle.rmp_wire.specs.declared.head.Head.TheVariants as head
@@ -7,9 +7,8 @@ use Rattle.rmp_wire.specs.declared.source.Source.{Ghosts}
 use Rattle.rmp_wire.specs.Msg.{Msg, bin, whole}
 use Rattle.rmp_wire.specs.Spelling.{head_of}
 use Rattle.rmp_decode.specs.Payloads.{Kind, TakesPayload}
+use Rattle.rmp_decode.proofs.Payloads.{payload_read}
 use Rattle.rmp_decode.specs.Wide.{IsSixteen, IsUnsigned128, IsSigned128, IsSigned128Head, IsUnsigned128Head, TakesSixteen, ReadsSixteen}
-use Rattle.rmp_decode.specs.declared.error.Error.{Error}
-use Rattle.rmp_decode.proofs.Payloads.{payload_short}
 
 -- a number from 0 on is read without a sign
 pub unsigned_as : (z : ℤ) (n : ℕ) → z ≡ pos n → IsUnsigned128 (whole z) n
@@ -69,20 +68,8 @@ module _ {S V : Type 0} (g : Ghosts S) (k : Kind V) (old new : S) where
   -- 16 bytes were there
   pub sixteen_read : (n : ℕ) (v : V) (r : ReadsSixteen g old new (Ok n)) → ((m : Msg) → IsSixteen m n → k.reads m v)
       → TakesPayload g k (head.Bin 16) old new (Ok v)
-  sixteen_read n v r f = let t = r.ok in record {
-    ok = record { bytes = t.bytes; long = t.long; small = t.small; taken = t.takes; value = f (bin t.bytes) (taken_sixteen t) };
-    sound = r.sound;
-    err = tt;
-    exact = tt;
-    taken = tt;
-    fault = tt;
-    memory = λ _. tt;
-    place = r.place;
-  }
-
-  -- they were short
-  pub sixteen_short : (e : Error) → ReadsSixteen g old new (Err e) → TakesPayload g k (head.Bin 16) old new (Err e)
-  sixteen_short e r = payload_short g k (head.Bin 16) old new 16 refl e r.err r.end r.fault (λ _. r.memory) r.place
+  sixteen_read n v r f = let t = r.ok in payload_read g k (head.Bin 16) old new 16 refl n v r
+      (record { bytes = t.bytes; long = t.long; small = t.small; taken = t.takes; value = f (bin t.bytes) (taken_sixteen t) })
 
 -- the first 16 bytes of some come before the others
 pub sixteen_first : (xs : List ℕ) → 16 ≤ length xs

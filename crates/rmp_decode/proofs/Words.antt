@@ -7,15 +7,8 @@ use Rattle.rmp_decode.specs.Words.{fitting}
 use Rattle.std.proofs.Math.ListN.{replicate}
 use Rattle.std.proofs.Math.Seq.{take-append_seam, take-append-add, take-length, drop-append_seam}
 use Rattle.std.proofs.lemmas.List.{length-replicate, drop-replicate, length-append, take_all}
-use Rattle.std.proofs.lemmas.Str.{
-  IsUtf8-nil,
-  IsUtf8-append,
-  IsUtf8-drop,
-  IsCharBoundary-from_take,
-  is_utf8-from_IsUtf8,
-  utf8_valid_len-IsUtf8,
-  utf8_valid_len-IsValidUpTo,
-}
+use Rattle.std.proofs.lemmas.Str.{IsUtf8-nil, IsUtf8-append, IsUtf8-drop, IsCharBoundary-from_take, is_utf8-from_IsUtf8, utf8_valid_len-IsUtf8}
+use Rattle.std.proofs.lemmas.Str.{utf8_valid_len-IsValidUpTo}
 
 -- no text in UTF-8 begins with the byte 255
 no_text : (i k : ℕ) → is_utf8 (take (suc i) (replicate (suc k) 255)) ≡ false

@@ -1,6 +1,7 @@
 -- What is buffered whole: the UTF-8 of a character, and the head of a leaf.
-use Rattle.std.specs.Prelude.{◌≡◌, ℕ, Bool, List, ◌++◌, length, encode_utf8}
+use Rattle.std.specs.Prelude.{◌≡◌, ℕ, Bool, List, ◌++◌, length, Option, encode_utf8}
 use Rattle.std.specs.Char.{IsScalar}
+use Rattle.std.specs.Io.KnownBytes.{Consumes}
 use Rattle.rmp_wire.specs.declared.head.Head.{Head}
 use Rattle.rmp_wire.specs.declared.source.Source.{Ghosts}
 use Rattle.rmp_wire.specs.Spelling.{IsBytes}
@@ -24,6 +25,10 @@ pub record CharIn (c len : ℕ) (front : List ℕ) : Type 0 where
   pub long : length bytes ≡ len
   pub following : List ℕ
   pub begins : front ≡ bytes ++ following
+
+-- the UTF-8 of the character was taken, of so many bytes
+abbrev pub TakesChar : ℕ → Option (List ℕ) → Option (List ℕ) → ℕ → Type 0
+TakesChar len old new c = IsScalar c × (length (encode_utf8 c) ≡ len) × IsBytes (encode_utf8 c) × Consumes old new (encode_utf8 c)
 
 -- the head of a leaf whose payload has so many bytes
 pub record IsLeafHead (h : Head) (len : ℕ) : Type 0 where

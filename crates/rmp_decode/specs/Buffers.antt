@@ -1,21 +1,21 @@
 -- Bytes from a text, from bytes, or from a list of numbers.
-use Rattle.std.specs.Prelude.{◌≡◌, ◌⊎◌, ℕ, ◌+◌, ◌<◌, ◌≤◌, Bool, List, Option, Some, IfSome, IfErr, Result, Ok, Vec, true, false}
+use Rattle.std.specs.Prelude.{◌≡◌, ◌⊎◌, ℕ, ◌+◌, ◌<◌, ◌≤◌, Bool, List, Option, Some, IfSome, IfNone, IfOk, IfErr, Result, Ok, Vec, true, false}
 use Rattle.std.specs.declared.alloc.Global.{Global}
 use Rattle.rmp_wire.specs.declared.head.Head.{Head}
 use Rattle.rmp_wire.specs.declared.marker.Marker.{Marker}
 use Rattle.rmp_wire.specs.declared.source.Source.{Ghosts}
 use Rattle.rmp_wire.specs.declared.head.Head.TheVariants.{Array}
-use Rattle.rmp_wire.specs.Msg.{Msg, Msgs, nil, truth, whole, float32, float64, text, bin, list, map, extension}
+use Rattle.rmp_wire.specs.Msg.{Msg, Msgs, text, bin, list}
 use Rattle.rmp_wire.specs.Canonical.{SpellsAs}
-use Rattle.rmp_decode.specs.Consumed.{LeavesRest, no_payload}
+use Rattle.rmp_decode.specs.Consumed.{LeavesAfter, LeavesRest, no_payload}
 use Rattle.rmp_decode.specs.Content.{IsRawHead, IsBufferHead, RefusesLeaf, not_raw, not_buffer}
-use Rattle.rmp_decode.specs.Exact.{BeginsWith, Exact, TellsFault}
+use Rattle.rmp_decode.specs.Exact.{BeginsWith, Exact, RefusesExactly, TellsFault}
 use Rattle.rmp_decode.specs.Kinds.{other_number}
 use Rattle.rmp_decode.specs.Law.{Begins, Explains, Readable, Lawful, ReadsHead}
 use Rattle.rmp_decode.specs.Payloads.{Kind}
 use Rattle.rmp_decode.specs.Read.{IsUnsigned}
 use Rattle.rmp_decode.specs.Rows.{ReadsEach}
-use Rattle.rmp_decode.specs.Seq.{BeginsRow}
+use Rattle.rmp_decode.specs.Seq.{BeginsRow, IsOpen, TakesElement, FailsToTake, reference_of}
 use Rattle.rmp_decode.specs.State.{left, faults_of, room_of}
 use Rattle.rmp_decode.specs.declared.deserializer.Deserializer.{Deserializer}
 use Rattle.rmp_decode.specs.declared.access.seq.SeqAccess.{SeqAccess}
@@ -24,16 +24,10 @@ use Rattle.rmp_decode.specs.declared.error.Error.TheVariants.{DepthLimitExceeded
 
 -- the bytes of a text, which may be no UTF-8, or of bytes, or a list of as many numbers up to 255
 abbrev pub IsBuffer : Msg → List ℕ → Type 0
-IsBuffer nil b = ⊥
-IsBuffer (truth t) b = ⊥
-IsBuffer (whole z) b = ⊥
-IsBuffer (float32 n) b = ⊥
-IsBuffer (float64 n) b = ⊥
 IsBuffer (text s) b = b ≡ s
 IsBuffer (bin s) b = b ≡ s
 IsBuffer (list ms) b = ReadsEach (IsUnsigned 255) ms b
-IsBuffer (map ps) b = ⊥
-IsBuffer (extension tag s) b = ⊥
+IsBuffer m b = ⊥
 
 -- what the rest of a read does, whose beginning took this head
 abbrev pub AfterHead : {R C V : Type 0} → Ghosts R → (Msg → V → Type 0) → Head → Deserializer R C → Deserializer R C → Result V Error → Type 0
@@ -131,6 +125,16 @@ pub record ReadsBuffer {R C : Type 0} (g : Ghosts R) (old new : Deserializer R C
   pub exact : RefusesLeaf g IsBufferHead not_raw not_buffer old new result
   pub list : old.failed ≡ false → IfErr result (RefusesList g old new)
   pub taken : old.failed ≡ false → IfErr result (BufferLeaves g old new)
+
+-- of the next number of a list that is open
+pub record ReadsNumber {R C : Type 0} (g : Ghosts R) (old new : SeqAccess R C) (result : Result (Option ℕ) Error) : Type 0 where
+  pub same_reference : reference_of new ≡ reference_of old
+  pub none : IsOpen old → IfOk result (λ o. IfNone o ((old.left ≡ 0) × (new ≡ old)))
+  pub some : IsOpen old → IfOk result (λ o. IfSome o (TakesElement g (IsUnsigned 255) old new))
+  pub err : IsOpen old → IfErr result (FailsToTake g (IsUnsigned 255) old new)
+  pub exact : IfErr result (RefusesExactly old.de.now.strict other_number (faults_of g old.de.now) (faults_of g new.de.now) (left g old.de.now))
+  pub taken : IfErr result (LeavesAfter old.de.now.strict no_payload (left g old.de.now) (left g new.de.now) (faults_of g old.de.now) (faults_of g new.de.now))
+  pub marked : old.de.now.failed ≡ true → new.de.now.failed ≡ true
 
 -- of a list whose head was taken
 pub record ReadsByteList {R C : Type 0} (g : Ghosts R) (n : ℕ) (mid new : Deserializer R C) (result : Result (Vec ℕ Global) Error) : Type 0 where

@@ -1,11 +1,11 @@
 -- What a refused read of a leaf leaves.
-use Rattle.std.specs.Prelude.{◌≡◌, ℕ, Bool, false, List, ◌++◌, length, Option, Some, IfSome, Result, Ok, IfErr}
+use Rattle.std.specs.Prelude.{◌≡◌, ℕ, Bool, false, List, ◌++◌, length, Option, Some, IfSome, Result, IfErr}
 use Rattle.rmp_wire.specs.declared.head.Head.{Head}
 use Rattle.rmp_wire.specs.declared.marker.Marker.{Marker}
 use Rattle.rmp_wire.specs.declared.source.Source.{Ghosts}
 use Rattle.rmp_decode.specs.Content.{WholePayload}
 use Rattle.rmp_decode.specs.Exact.{BeginsWith, BeginsWithNone}
-use Rattle.rmp_decode.specs.Law.{Explains, LeavesNone, ReadsHead}
+use Rattle.rmp_decode.specs.Law.{Explains, LeavesNone}
 use Rattle.rmp_decode.specs.State.{left, faults_of}
 use Rattle.rmp_decode.specs.declared.deserializer.Deserializer.{Deserializer}
 use Rattle.rmp_decode.specs.declared.error.Error.{Error}
@@ -29,12 +29,6 @@ LeavesAfter strict wanted known new before after e = Explains e before after (If
 abbrev pub RefusalLeaves : {R C V : Type 0} → Ghosts R → (Head → Type 0) → Deserializer R C → Deserializer R C → Result V Error → Type 0
 RefusalLeaves g wanted old new result = old.failed ≡ false
     → IfErr result (LeavesAfter old.strict wanted (left g old) (left g new) (faults_of g old) (faults_of g new))
-
--- the same of the rest of a read, whose beginning took this head
-abbrev pub RestLeaves : {R C : Type 0} → Ghosts R → (Head → Type 0) → Head → Deserializer R C → Deserializer R C → Error → Type 0
-RestLeaves {R} {C} g wanted h mid new e =
-    (old : Deserializer R C) (m : Marker) → ReadsHead g old mid (Ok (m, h))
-    → LeavesAfter old.strict wanted (left g old) (left g new) (faults_of g old) (faults_of g new) e
 
 -- where a piece of n bytes is whole, what follows it is left
 abbrev pub LeavesPiece : ℕ → Option (List ℕ) → List ℕ → Type 0

@@ -1,12 +1,11 @@
 -- Which error a read returns that wants a head and its payload, by how the bytes begin.
-use Rattle.std.specs.Prelude.{◌≡◌, ◌≢◌, ◌<◌, ℕ, Bool, true, false, List, ◌++◌, length, Option, IfSome, Result, Ok, IfErr, IsUtf8}
+use Rattle.std.specs.Prelude.{◌≡◌, ◌≢◌, ◌<◌, ℕ, Bool, true, false, List, ◌++◌, length, Option, IfSome, Result, IfErr, IsUtf8}
 use Rattle.rmp_wire.specs.declared.head.Head.{Head}
 use Rattle.rmp_wire.specs.declared.head.Head.TheVariants.{Text, Bin, Array, Ext}
 use Rattle.rmp_wire.specs.declared.marker.Marker.{Marker}
 use Rattle.rmp_wire.specs.declared.source.Source.{Ghosts}
 use Rattle.rmp_decode.specs.Exact.{BeginsWith, BeginsWithNone, Ends, UnlessFault, IsDataEnd, IsUtf8Error}
 use Rattle.rmp_decode.specs.Kinds.{content_len}
-use Rattle.rmp_decode.specs.Law.{ReadsHead}
 use Rattle.rmp_decode.specs.State.{left, faults_of}
 use Rattle.rmp_decode.specs.declared.deserializer.Deserializer.{Deserializer}
 use Rattle.rmp_decode.specs.declared.error.Error.{Error}
@@ -46,13 +45,6 @@ abbrev pub RefusesLeaf : {R C V : Type 0} → Ghosts R → (Head → Type 0) →
     → Deserializer R C → Result V Error → Type 0
 RefusesLeaf g wanted other refused old new result = old.failed ≡ false
     → IfErr result (RefusesContent old.strict wanted other refused (faults_of g old) (faults_of g new) (left g old))
-
--- the same of the rest of a read, whose beginning took this head
-abbrev pub RefusesAfterHead : {R C : Type 0} → Ghosts R → (Head → Type 0) → (Marker → Head → Error) → (Head → List ℕ → Error → Type 0) → Head
-    → Deserializer R C → Deserializer R C → Error → Type 0
-RefusesAfterHead {R} {C} g wanted other refused h mid new e =
-    (old : Deserializer R C) (m : Marker) → ReadsHead g old mid (Ok (m, h))
-    → RefusesContent old.strict wanted other refused (faults_of g old) (faults_of g new) (left g old) e
 
 -- ---- which heads are wanted
 

@@ -27,17 +27,17 @@ pub record BeginsWith (strict : Bool) (m : Marker) (h : Head) (xs : List ℕ) : 
 abbrev pub BeginsWithNone : Bool → List ℕ → Type 0
 BeginsWithNone strict xs = (m : Marker) (h : Head) → BeginsWith strict m h xs → ⊥
 
--- the input ended before a message's first byte
+-- the error says that the input ended before a message's first byte
 abbrev pub IsMarkerEnd : Error → Type 0
 IsMarkerEnd (InvalidMarkerRead fault) = fault_kind fault ≡ UnexpectedEof
 IsMarkerEnd _ = ⊥
 
--- the input ended after it
+-- the error says that the input ended after a message's first byte
 abbrev pub IsDataEnd : Error → Type 0
 IsDataEnd (InvalidDataRead fault) = fault_kind fault ≡ UnexpectedEof
 IsDataEnd _ = ⊥
 
--- the input ended before or after it
+-- the error says that the input ended
 abbrev pub IsEnd : Error → Type 0
 IsEnd e = IsMarkerEnd e ⊎ IsDataEnd e
 
@@ -56,6 +56,10 @@ pub record TellsFault (before after : ℕ) (e : Error) : Type 0 where
 -- Where the source had no fault P holds, and otherwise the error tells it.
 abbrev pub UnlessFault : ℕ → ℕ → Error → Type 0 → Type 0
 UnlessFault before after e P = (after ≡ before → P) × TellsFault before after e
+
+-- the source had a fault, which the error tells
+abbrev pub FaultTold : ℕ → ℕ → Error → Type 0
+FaultTold before after e = (after ≢ before) × TellsFault before after e
 
 -- a text isn't UTF-8
 abbrev pub IsUtf8Error : Error → Type 0

@@ -1,5 +1,6 @@
 -- What an access to the fields of a struct does to the `Deserializer` that it borrows.
-use Rattle.std.specs.Prelude.{◌≡◌, ◌≢◌, ◌⊎◌, ℕ, zero, suc, ◌+◌, ◌-◌, ◌<◌, ◌≤◌, max, Bool, true, false, List, length, Result, Ok, Err, Option, Some, None}
+use Rattle.std.specs.Prelude.{◌≡◌, ◌≢◌, ◌⊎◌, ℕ, zero, suc, ◌+◌, ◌-◌, ◌<◌, ◌≤◌, max, Bool, true, false, List, length, Result, Ok, Err, IfOk, OnErr, MatchResult}
+use Rattle.std.specs.Prelude.{Option, Some, None, IfSome, MatchOption}
 use Rattle.std.specs.Borrow.{GName}
 use Rattle.std.specs.Int.{bit_at}
 use Rattle.rmp_wire.specs.declared.source.Source.{Ghosts}
@@ -125,7 +126,7 @@ pub record OpensStructIn {R C : Type 0} (g : Ghosts R) (names : List (List ℕ))
 
 -- the content of a variant is none, or has no fields
 pub record FailsToOpenStructOf {R C : Type 0} (g : Ghosts R) (v : Variant R C) (last : Deserializer R C) (e : Error) : Type 0 where
-  pub err : RefusesContentOf g (λ c. true) (λ human. Readable (λ m (u : Unit {0}). HasFields m)) v last e
+  pub err : RefusesContentOf g true (λ human. Readable (λ m (u : Unit {0}). HasFields m)) v last e
   pub bare : v.bare ≡ true → (e ≡ Syntax InvalidType) × (last ≡ v.de.now)
   pub exact : v.bare ≡ false → ContentRefusedBy g (λ strict. RefusesBy strict (not_fields (max 1 v.inner))) v last e
 
@@ -211,6 +212,17 @@ pub record FailsName {R C : Type 0} (g : Ghosts R) (human lends : Bool) (names :
   pub mid : MapAccess R C
   pub passed : Passes g names many old mid
   pub pair : FailsKey g human lends names mid new e ⊎ FailsAfter g human lends names mid new e
+
+-- all that the read of the next name of a map promises
+pub record ReadsName {R C : Type 0} (g : Ghosts R) (human lends : Bool) (old new : FieldAccess R C) (result : Result (Option ℕ) Error) : Type 0 where
+  pub same_reference : new.de.ghost_name ≡ old.de.ghost_name
+  pub same : SameStruct old new
+  pub met : new.met ≡ old.met
+  pub answers : IsMapOpen (as_map old)
+      → MatchResult result (λ o. MatchOption o (NoName g (names_in old) (as_map old) (as_map new)) (λ place. TakesName g (names_in old) place (as_map old) (as_map new)))
+      (FailsName g human lends (names_in old) (as_map old) (as_map new))
+  pub fewer : IfOk result (λ o. IfSome o (λ place. new.left < old.left))
+  pub failed : OnErr result (new.sound ≡ false)
 
 -- a key was read of a field that was met before
 pub record MeetsAgain {R C : Type 0} (g : Ghosts R) (old new : FieldAccess R C) (e : Error) : Type 0 where

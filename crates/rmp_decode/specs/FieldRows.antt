@@ -1,5 +1,5 @@
 -- Messages of several types that are read one after another: the fields of a struct that is a list of as many.
-use Rattle.std.specs.Prelude.{◌≡◌, ◌<◌, ◌-◌, ℕ, true, false, List}
+use Rattle.std.specs.Prelude.{◌≡◌, ◌<◌, ℕ, true, false, List}
 use Rattle.std.specs.Io.KnownBytes.{Consumes}
 use Rattle.rmp_wire.specs.declared.source.Source.{Ghosts}
 use Rattle.rmp_wire.specs.Canonical.{SpellsAs}
@@ -30,21 +30,3 @@ pub record FailsRow {R C : Type 0} (g : Ghosts R) (P : Msgs → Type 0) (n : ℕ
   pub stays : Stays g old new
   pub failed : new.failed ≡ true
   pub err : Explains e (faults_of g old) (faults_of g new) (RefusesRow (SpellsAs old.strict) P (room_of old) n (left g old))
-
--- ---- the elements of a list whose head was taken
-
--- the reader that reads them, which nest one level less
-abbrev pub in_row : {R C : Type 0} → Deserializer R C → Deserializer R C
-in_row d = record d { room = d.room - 1; failed = false }
-
--- so many were read, and P holds of their trees
-pub record ReadsRow {R C : Type 0} (g : Ghosts R) (P : Msgs → Type 0) (n : ℕ) (old new : Deserializer R C) : Type 0 where
-  pub last : Deserializer R C
-  pub row : TakesRow g P n (in_row old) last
-  pub is : new ≡ record last { room = old.room }
-
--- no so many are to come of whose trees P holds
-pub record MissesRow {R C : Type 0} (g : Ghosts R) (P : Msgs → Type 0) (n : ℕ) (old new : Deserializer R C) (e : Error) : Type 0 where
-  pub last : Deserializer R C
-  pub row : FailsRow g P n (in_row old) last e
-  pub is : new ≡ record last { room = old.room }

@@ -8,8 +8,8 @@ use Rattle.rmp_wire.specs.declared.head.Head.TheVariants.{Map, Array, Bin}
 use Rattle.rmp_wire.specs.declared.marker.Marker.{Marker}
 use Rattle.rmp_wire.specs.declared.source.Source.{Ghosts}
 pub use Rattle.rmp_wire.specs.Kinds.{fields_head}
-use Rattle.rmp_wire.specs.Msg.{Msg, nil, truth, whole, float32, float64, text, bin, list}
-use Rattle.rmp_wire.specs.Msg.{extension, Msgs, no_items, item, count, items_of, Pairs, no_pairs, pair}
+use Rattle.rmp_wire.specs.Msg.{Msg, bin, list}
+use Rattle.rmp_wire.specs.Msg.{Msgs, no_items, item, count, items_of, Pairs, no_pairs, pair}
 use Rattle.rmp_wire.specs.Msg.{map as mapping}
 use Rattle.rmp_decode.specs.Content.{RefusesContent, not_raw, never_refused}
 use Rattle.rmp_decode.specs.Exact.{TellsFault}
@@ -32,47 +32,43 @@ use Rattle.rmp_decode.specs.declared.text.Text.TheVariants.{InvalidType}
 
 -- ---- the trees of fields, each in the place of its name, or none where it isn't there
 
--- no field is there yet
+-- a place for each name, with no tree yet
 abbrev pub blank : List (List ℕ) → List (Option Msg)
 blank [] = []
 blank (s ∷ names) = None ∷ blank names
 
--- that tree in an empty place: `None` where the place has a tree, or where there is no such place
+-- The tree put into this place: `None` where the place has a tree, or where there is no such place.
 abbrev pub put : ℕ → Msg → List (Option Msg) → Option (List (Option Msg))
 put n m [] = None
 put zero m (None ∷ fs) = Some (Some m ∷ fs)
 put zero m (Some k ∷ fs) = None
 put (suc n) m (f ∷ fs) = option_and_then (λ gs. Some (f ∷ gs)) (put n m fs)
 
+-- The tree put into the place that its key names, or passed over where its key is no name.
 abbrev pub put_named : Option ℕ → Msg → List (Option Msg) → Option (List (Option Msg))
 put_named None m fs = Some fs
 put_named (Some n) m fs = put n m fs
 
--- Pairs more: what their keys name, in its place; what is of no name is passed over. `None` where a key says nothing, or names a field again.
+-- The places after these pairs: each value in the place that its key names, or passed over where its key is no name.
+-- `None` where a key can't be a name, or names a place again.
 abbrev pub met : List (List ℕ) → List (Option Msg) → Pairs → Option (List (Option Msg))
 met names fs no_pairs = Some fs
 met names fs (pair k v ps) = option_and_then (λ gs. met names gs ps) (option_and_then (λ o. put_named o v fs) (name_of names k))
 
--- each of them is there
+-- each item in a place of its own, in their order
 abbrev pub given_all : Msgs → List (Option Msg)
 given_all ms = map (λ m. Some m) (items_of ms)
 
--- each field is there, in the order of the names
+-- The items of a list as fields, if there is one for each name.
 abbrev pub given : List (List ℕ) → Msgs → Option (List (Option Msg))
 given names ms = cond (nat_eq (count ms) (length names)) (Some (given_all ms)) None
 
 -- The tree of each name, of which some may be missing. `None` for a tree that is refused whatever the fields' types are.
 abbrev pub fields : List (List ℕ) → Msg → Option (List (Option Msg))
-fields names nil = None
-fields names (truth t) = None
-fields names (whole z) = None
-fields names (float32 n) = None
-fields names (float64 n) = None
-fields names (text s) = None
 fields names (bin s) = given names (numbers s)
 fields names (list ms) = given names ms
 fields names (mapping ps) = met names (blank names) ps
-fields names (extension tag s) = None
+fields names m = None
 
 -- a tree whose fields are such
 abbrev pub OfFields : List (List ℕ) → (List (Option Msg) → Type 0) → Msg → Type 0
@@ -171,16 +167,10 @@ slot_full reads absent rest holds law (item m ms) o s h =
 
 -- a list, bytes or a map
 abbrev pub HasFields : Msg → Type 0
-HasFields nil = ⊥
-HasFields (truth t) = ⊥
-HasFields (whole z) = ⊥
-HasFields (float32 n) = ⊥
-HasFields (float64 n) = ⊥
-HasFields (text s) = ⊥
 HasFields (bin s) = Unit {0}
 HasFields (list ms) = Unit {0}
 HasFields (mapping ps) = Unit {0}
-HasFields (extension tag s) = ⊥
+HasFields m = ⊥
 
 -- How a message is refused where fields are wanted, by the room: a list or a map only where no level is left, bytes never, and another kind.
 abbrev pub not_fields : ℕ → Marker → Head → Error → Type 0
@@ -208,7 +198,7 @@ BeginsSome strict known = IfSome known (OpensSome strict)
 
 -- How a message is refused that is passed over. A fault of the source is told; where it lends, only a list or a map that isn't empty takes memory.
 abbrev pub pass_refusal : Setting → Refusals
-pass_refusal s before after known e = (after ≡ before → RefusedFor s.strict (UnpassedFor s.lends s.strict) any_row s.room e known)
+pass_refusal s before after known e = (after ≡ before → RefusedFor s.strict (UnpassedFor s.lends s.room s.strict) any_row s.room e known)
     × (s.lends ≡ true → e ≡ OutOfMemory → BeginsSome s.strict known)
     × TellsFault before after e
 

@@ -18,7 +18,7 @@ use Rattle.rmp_decode.specs.declared.text.Text.TheVariants.{FailedBefore}
 abbrev pub Readable : {V : Type 0} → (Msg → V → Type 0) → Msg → Type 0
 Readable {V} reads m = (v : V) × reads m v
 
--- a beginning of xs spells a tree of which P holds and that nests below the room
+-- a beginning of xs spells a tree of which P is true and that nests below the room
 pub record Begins (spells : List ℕ → Msg → Type 0) (P : Msg → Type 0) (room : ℕ) (xs : List ℕ) : Type 0 where
   pub bytes : List ℕ
   pub rest : List ℕ

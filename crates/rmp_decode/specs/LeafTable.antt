@@ -23,7 +23,7 @@ Tells strict first payload = payload < 0xffffffff → (following : List ℕ) →
 -- with these bytes leaves are passed, so that of n messages j are still wanted, whatever is wanted around them
 abbrev pub PassesLeaves : Bool → ℕ → ℕ → List ℕ → Type 0
 PassesLeaves strict n j passed =
-    (lends : Bool) (room : ℕ) (counts : List ℕ) → 0 < room → Leads strict (UnpassedFor lends strict) room (n ∷ counts) room (j ∷ counts) passed
+    (lends : Bool) (top room : ℕ) (counts : List ℕ) → 0 < room → Leads strict (UnpassedFor lends top strict) room (n ∷ counts) room (j ∷ counts) passed
 
 -- leaves were skipped: j of n messages are still wanted
 pub record SkipsLeaves {R C : Type 0} (g : Ghosts R) (n j : ℕ) (old new : Deserializer R C) : Type 0 where

@@ -9,6 +9,7 @@ pub mod Defaults
 pub mod EnumRefusing
 pub mod Exact
 pub mod FieldAccess
+pub mod FieldReads
 pub mod FieldRefusing
 pub mod FieldRows
 pub mod Fields

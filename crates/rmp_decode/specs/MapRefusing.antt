@@ -1,5 +1,5 @@
 -- Which error the read of a map answers, by those of its keys and values.
-use Rattle.std.specs.Prelude.{◌≡◌, ◌⊎◌, ℕ, ◌+◌, ◌<◌, Bool, List, Option}
+use Rattle.std.specs.Prelude.{◌≡◌, ◌≢◌, ◌⊎◌, ℕ, ◌+◌, ◌<◌, Bool, List, Option, Result, MatchResult}
 use Rattle.std.specs.Io.KnownBytes.{Consumes}
 use Rattle.rmp_wire.specs.declared.head.Head.TheVariants.{Map}
 use Rattle.rmp_wire.specs.declared.source.Source.{Ghosts}
@@ -9,15 +9,30 @@ use Rattle.rmp_wire.specs.Spelling.{PairsSpelledBy}
 use Rattle.rmp_decode.specs.Exact.{RefusesBy}
 use Rattle.rmp_decode.specs.Law.{Readable}
 use Rattle.rmp_decode.specs.Maps.{map_inner, not_map, ReadsPairs}
+use Rattle.rmp_decode.specs.Parts.{TakesPart, FailsPart}
 use Rattle.rmp_decode.specs.Refusing.{Setting, Refusals, setting_of, inside, IsMemory, AfterMessage}
 use Rattle.rmp_decode.specs.State.{left, faults_of}
 use Rattle.rmp_decode.specs.declared.deserializer.Deserializer.{Deserializer}
 use Rattle.rmp_decode.specs.declared.access.map.MapAccess.{MapAccess}
 use Rattle.rmp_decode.specs.declared.error.Error.{Error}
+use Rattle.rmp_decode.specs.declared.error.Error.TheVariants.{OutOfMemory}
 
 -- a part that nests below this is refused so
 abbrev pub PartRefused : {R C : Type 0} → Ghosts R → Bool → Bool → (Setting → Refusals) → ℕ → Deserializer R C → Deserializer R C → Error → Type 0
 PartRefused g human lends P inner old new e = P (inside (setting_of human lends old) inner) (faults_of g old) (faults_of g new) (left g old) e
+
+-- a part was refused: what that says of the bytes, which error it is, and that memory can't run out
+pub record RefusesPart {R C V : Type 0} (g : Ghosts R) (human lends : Bool) (reads : Msg → V → Type 0) (P : Setting → Refusals) (spared : Type 0)
+    (inner : ℕ) (old new : Deserializer R C) (e : Error) : Type 0 where
+  pub fails : FailsPart g reads inner old new e
+  pub named : PartRefused g human lends P inner old new e
+  pub memory : spared → e ≢ OutOfMemory
+
+-- all that the read of a part promises
+abbrev pub ReadsPart : {R C V : Type 0} → Ghosts R → Bool → Bool → (Bool → Bool → Msg → V → Type 0) → (Setting → Refusals) → Type 0 → ℕ
+    → Deserializer R C → Deserializer R C → Result V Error → Type 0
+ReadsPart g human lends reads P spared inner old new result =
+    MatchResult result (TakesPart g (reads human lends) inner old new) (RefusesPart g human lends (reads human lends) P spared inner old new)
 
 -- the next key or value of an access that was in one state and is in another then is refused so
 abbrev pub EntryRefused : {R C : Type 0} → Ghosts R → Bool → Bool → (Setting → Refusals) → MapAccess R C → MapAccess R C → Error → Type 0

@@ -9,7 +9,7 @@ use Rattle.rmp_wire.specs.declared.head.Head.{Head}
 use Rattle.rmp_wire.specs.declared.head.Head.TheVariants.{Map}
 use Rattle.rmp_wire.specs.declared.marker.Marker.{Marker}
 use Rattle.rmp_wire.specs.declared.source.Source.{Ghosts}
-use Rattle.rmp_wire.specs.Msg.{Msg, nil, truth, whole, float32, float64, text, bin, list, map, extension, Pairs, no_pairs, pair}
+use Rattle.rmp_wire.specs.Msg.{Msg, map, Pairs, no_pairs, pair}
 use Rattle.rmp_decode.specs.Opening.{FailsToOpenAs, TakesOpening}
 use Rattle.rmp_decode.specs.Law.{TakesHead}
 use Rattle.rmp_decode.specs.Parts.{TakesPart}
@@ -26,16 +26,8 @@ use Rattle.rmp_decode.specs.declared.text.Text.TheVariants.{InvalidType}
 
 -- a map whose pairs are such
 abbrev pub OfMap : (Pairs → Type 0) → Msg → Type 0
-OfMap Q nil = ⊥
-OfMap Q (truth t) = ⊥
-OfMap Q (whole z) = ⊥
-OfMap Q (float32 n) = ⊥
-OfMap Q (float64 n) = ⊥
-OfMap Q (text s) = ⊥
-OfMap Q (bin s) = ⊥
-OfMap Q (list ms) = ⊥
 OfMap Q (map ps) = Q ps
-OfMap Q (extension tag s) = ⊥
+OfMap Q m = ⊥
 
 abbrev pub IsMap : Msg → Type 0
 IsMap m = OfMap (λ ps. Unit {0}) m

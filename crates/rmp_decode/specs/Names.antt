@@ -12,7 +12,7 @@ use Rattle.rmp_wire.specs.Msg.{map as mapping}
 abbrev pub bytes_of : List (Bor (List ℕ)) → List (List ℕ)
 bytes_of names = map (λ s. s.now) names
 
--- that place where there are more names, and else none (`Some None`); `None` for a number below zero
+-- The place with this number, if there are more names, and otherwise none (`Some None`). `None` for a number below zero.
 abbrev pub place_below : ℕ → ℤ → Option (Option ℕ)
 place_below many (pos n) = Some (cond (nat_lt n many) (Some n) None)
 place_below many (negsuc n) = None
@@ -22,29 +22,24 @@ abbrev pub place_of : List (List ℕ) → List ℕ → Option ℕ
 place_of [] s = None
 place_of (n ∷ names) s = cond (bytes_eq n s) (Some 0) (option_map suc (place_of names s))
 
--- What a message says: the place of the first name that a text or bytes are, or a number as a place; or that it is of no name (`Some None`). `None` where
--- a message of its kind says nothing.
+-- Which name a message is: the first that a text or bytes are, or the one in a number's place; or none of them (`Some None`).
+-- `None` for a message that can't be a name.
 abbrev pub name_of : List (List ℕ) → Msg → Option (Option ℕ)
-name_of names nil = None
-name_of names (truth t) = None
 name_of names (whole z) = place_below (length names) z
-name_of names (float32 n) = None
-name_of names (float64 n) = None
 name_of names (text s) = Some (place_of names s)
 name_of names (bin s) = Some (place_of names s)
-name_of names (list ms) = None
-name_of names (mapping ps) = None
-name_of names (extension tag s) = None
+name_of names m = None
 
 -- the message says this
 abbrev pub IsName : List (List ℕ) → Msg → Option ℕ → Type 0
 IsName names m o = name_of names m ≡ Some o
 
--- no two of the names are the same
+-- the name isn't among these
 abbrev pub is_new : List (List ℕ) → List ℕ → Bool
 is_new [] s = true
 is_new (n ∷ names) s = cond (bytes_eq n s) false (is_new names s)
 
+-- no name is there twice
 abbrev pub distinct : List (List ℕ) → Bool
 distinct [] = true
 distinct (s ∷ names) = cond (is_new names s) (distinct names) false

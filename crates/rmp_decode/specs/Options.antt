@@ -4,7 +4,7 @@ use Rattle.std.specs.Fn.{FnOnceReturnsAtMut}
 use Rattle.std.specs.Io.KnownBytes.{Keeps}
 use Rattle.rmp_wire.specs.Msg.{Msg, nil}
 use Rattle.rmp_wire.specs.declared.source.Source.{Ghosts}
-use Rattle.rmp_decode.specs.Exact.{IsMarkerEnd}
+use Rattle.rmp_decode.specs.Exact.{IsMarkerEnd, UnlessFault}
 use Rattle.rmp_decode.specs.Law.{Explains, GoesOn, IsFailedBefore, Lawful, NoMessage}
 use Rattle.rmp_decode.specs.Refusing.{Setting, Refusals}
 use Rattle.rmp_decode.specs.State.{faults_of, kept_bytes, left, Stays}
@@ -34,9 +34,9 @@ abbrev pub ToldOther : Option (List ℕ) → Type 0
 ToldOther None = ⊥
 ToldOther (Some xs) = BeginsOther xs
 
--- no message is there, since the bytes end
+-- no message is there, since the bytes end or the source had a fault
 abbrev pub EndsBefore : ℕ → ℕ → Option (List ℕ) → Error → Type 0
-EndsBefore before after known e = after ≡ before → IfSome known (λ xs. (xs ≡ []) × IsMarkerEnd e)
+EndsBefore before after known e = UnlessFault before after e (IfSome known (λ xs. (xs ≡ []) × IsMarkerEnd e))
 
 -- how a message that was looked at is refused: as P says of what was left, where that was told
 pub record RefusesThere (P : Refusals) (before after : ℕ) (known : Option (List ℕ)) (e : Error) : Type 0 where

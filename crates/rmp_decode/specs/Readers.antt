@@ -1,5 +1,5 @@
 -- What a reader over a source shows, and what a read of a source's beginning says.
-use Rattle.std.specs.Prelude.{◌≡◌, ℕ, ◌<◌, false, List}
+use Rattle.std.specs.Prelude.{◌≡◌, ◌≢◌, ℕ, ◌<◌, Bool, false, List, Result, IfOk, IfErr}
 use Rattle.std.specs.Io.KnownBytes.{Consumes}
 use Rattle.rmp_wire.specs.declared.slice.read_reader.ReadReader.{ReadReader}
 use Rattle.rmp_wire.specs.declared.source.Source.{Ghosts}
@@ -10,6 +10,7 @@ use Rattle.rmp_decode.specs.Law.{Explains, Readable, Refuses}
 use Rattle.rmp_decode.specs.Refusing.{Setting, Refusals}
 use Rattle.rmp_decode.specs.declared.deserializer.Deserializer.{Deserializer}
 use Rattle.rmp_decode.specs.declared.error.Error.{Error}
+use Rattle.rmp_decode.specs.declared.error.Error.TheVariants.{OutOfMemory}
 
 -- `de.get_ref()`
 abbrev pub source_of : {R C : Type 0} → Deserializer (ReadReader R) C → R
@@ -38,9 +39,18 @@ pub record RefusedBy {R V : Type 0} (g : Ghosts R) (reads : Msg → V → Type 0
   pub explains : Explains e (g.faults old) (g.faults new) (Refuses Spells (Readable reads) 1024 (g.ahead old))
   pub refused : refuses (g.faults old) (g.faults new) (g.ahead old) e
 
--- a value was read from a source, which isn't given back
+-- all that a read of a value from a source promises: the value, how it refuses, where the source is, and that memory can't run out
+pub record ReadsSource {R V : Type 0} (g : Ghosts R) (wants : Bool) (reads : Msg → V → Type 0) (refuses : Refusals) (old new : R)
+    (result : Result V Error) : Type 0 where
+  pub ok : IfOk result (ReadFrom g reads old new)
+  pub err : IfErr result (RefusedBy g reads refuses old new)
+  pub place : g.place new ≡ g.place old
+  pub memory : wants ≡ false → IfErr result (λ e. e ≢ OutOfMemory)
+
+-- a value was read from a source, which isn't given back: of some state of it, which reads through the same references
 pub record TakenFrom {R V : Type 0} (g : Ghosts R) (reads : Msg → V → Type 0) (source : R) (v : V) : Type 0 where
   pub last : R
+  pub place : g.place last ≡ g.place source
   pub read : ReadFrom g reads source last v
 
 -- a source refused, and was left in some state

@@ -1,5 +1,5 @@
 -- Which error names the first thing that is wrong with a message, and where.
-use Rattle.std.specs.Prelude.{◌≡◌, ◌≢◌, ◌⊎◌, ℕ, suc, ◌<◌, Bool, false, List, [], ◌∷◌, Option, IfSome}
+use Rattle.std.specs.Prelude.{◌≡◌, ◌≢◌, ◌⊎◌, ℕ, suc, ◌-◌, ◌<◌, Bool, true, false, List, [], ◌∷◌, Option, IfSome, Result, IfErr}
 use Rattle.rmp_wire.specs.declared.head.Head.{Head}
 use Rattle.rmp_wire.specs.declared.marker.Marker.{Marker}
 use Rattle.rmp_wire.specs.declared.marker.Marker.TheVariants.{Reserved}
@@ -8,9 +8,11 @@ use Rattle.rmp_wire.specs.Msg.{Msgs}
 use Rattle.rmp_wire.specs.Canonical.{SpellsAs}
 use Rattle.rmp_decode.specs.Anys.{OpensParts}
 use Rattle.rmp_decode.specs.Content.{CutPayload}
-use Rattle.rmp_decode.specs.Exact.{BeginsWith, BeginsWithNone, OtherWidth, IsMarkerEnd, IsDataEnd}
+use Rattle.rmp_decode.specs.Exact.{BeginsWith, BeginsWithNone, OtherWidth, IsMarkerEnd, IsDataEnd, TellsFault}
+use Rattle.rmp_decode.specs.Kinds.{content_len}
+use Rattle.rmp_decode.specs.Law.{Lawful}
 use Rattle.rmp_decode.specs.Seq.{BeginsRow}
-use Rattle.rmp_decode.specs.Skip.{parts_head, parts_count}
+use Rattle.rmp_decode.specs.Skip.{SkipsRow, any_tree, any_row, parts_head, parts_count}
 use Rattle.rmp_decode.specs.State.{left, faults_of, room_of}
 use Rattle.rmp_decode.specs.declared.deserializer.Deserializer.{Deserializer}
 use Rattle.rmp_decode.specs.declared.error.Error.{Error}
@@ -47,23 +49,24 @@ IsWrong strict room DepthLimitExceeded xs = (room ≡ 1) × OpensParts strict xs
 IsWrong strict room NotCanonical xs = WidthIsWrong strict xs
 IsWrong strict room _ xs = ⊥
 
--- the bytes begin with the head of a leaf
+-- the bytes begin with the head of a leaf that has a payload
 pub record OpensLeaf (strict : Bool) (xs : List ℕ) : Type 0 where
   pub head : Head
   pub marker : Marker
   pub starts : BeginsWith strict marker head xs
   pub no_parts : (q : Bool × ℕ) → head ≡ parts_head q.0 q.1 → ⊥
+  pub some : 0 < content_len head
 
 -- the bytes begin with the head of a list or a map that isn't empty
 pub record OpensSome (strict : Bool) (xs : List ℕ) : Type 0 where
   pub parts : OpensParts strict xs
   pub some : 0 < parts.len
 
--- why the message can't be skipped: what is wrong with it, or memory ran out: for the payload of a leaf, unless the source lends,
--- or for how many messages are still wanted outside of a list or a map that isn't empty
-abbrev pub UnpassedFor : Bool → Bool → ℕ → Error → List ℕ → Type 0
-UnpassedFor lends strict room OutOfMemory xs = ((lends ≡ false) × OpensLeaf strict xs) ⊎ OpensSome strict xs
-UnpassedFor lends strict room e xs = IsWrong strict room e xs
+-- Why a message can't be skipped, which may be inside of another that has to nest below `top`: what is wrong with it, or memory ran out, for
+-- a payload that isn't lent, or for the messages that are wanted after an inner list or map that isn't empty.
+abbrev pub UnpassedFor : Bool → ℕ → Bool → ℕ → Error → List ℕ → Type 0
+UnpassedFor lends top strict room OutOfMemory xs = ((lends ≡ false) × OpensLeaf strict xs) ⊎ ((room < top) × OpensSome strict xs)
+UnpassedFor lends top strict room e xs = IsWrong strict room e xs
 
 -- The bytes begin with a list or a map, of which some messages are whole, but not all: they nest below the room, and are readable.
 pub record Enters (strict : Bool) (readable : Msgs → Type 0) (room : ℕ) (xs : List ℕ) : Type 0 where
@@ -105,3 +108,20 @@ abbrev pub RefusesRowFirst : {R C : Type 0} → Ghosts R → (Bool → ℕ → E
     → Deserializer R C → Error → Type 0
 RefusesRowFirst g wrong readable room n old new e = faults_of g new ≡ faults_of g old
     → RowRefusedFor old.strict (wrong old.strict) readable room n e (left g old)
+
+-- ---- all that skipping promises
+
+-- of the parts of a list or a map whose head was taken, so many messages, by whether the source lends
+pub record SkipsParts {R C : Type 0} (g : Ghosts R) (lends : Bool) (n : ℕ) (mid new : Deserializer R C) (result : Result (Unit {0}) Error) : Type 0 where
+  pub law : SkipsRow g (room_of mid - 1) n mid new result
+  pub deep : IfErr result (λ e. room_of mid ≡ 1 → e ≡ DepthLimitExceeded)
+  pub exact : IfErr result (λ e. 1 < room_of mid → RefusesRowFirst g (UnpassedFor lends (room_of mid)) any_row (room_of mid - 1) n mid new e)
+  pub fault : IfErr result (TellsFault (faults_of g mid) (faults_of g new))
+  pub memory : lends ≡ true → IfErr result (λ e. e ≡ OutOfMemory → 0 < n)
+
+-- of one message
+pub record SkipsMessage {R C : Type 0} (g : Ghosts R) (lends : Bool) (old new : Deserializer R C) (result : Result (Unit {0}) Error) : Type 0 where
+  pub law : Lawful g any_tree old new result
+  pub exact : IfErr result (RefusesFirst g (UnpassedFor lends (room_of old)) any_row old new)
+  pub fault : IfErr result (TellsFault (faults_of g old) (faults_of g new))
+  pub memory : lends ≡ true → IfErr result (λ e. e ≡ OutOfMemory → IfSome (left g old) (OpensSome old.strict))

@@ -1,15 +1,15 @@
 -- Which error the read of a type answers, and how it is composed of those of its parts.
-use Rattle.std.specs.Prelude.{◌≡◌, ◌⊎◌, ℕ, ◌+◌, ◌<◌, Bool, true, false, List, [], ◌∷◌, ◌++◌, Option, None, Some, Result, IfErr, length, pos}
+use Rattle.std.specs.Prelude.{◌≡◌, ◌≢◌, ◌⊎◌, ℕ, ◌+◌, ◌<◌, Bool, true, false, List, [], ◌∷◌, ◌++◌, Option, None, Some, Result, IfErr, OnErr, MatchResult, length, pos}
 use Rattle.std.specs.Io.KnownBytes.{Consumes}
 use Rattle.rmp_wire.specs.declared.head.Head.TheVariants.{Whole}
 use Rattle.rmp_wire.specs.declared.source.Source.{Ghosts}
 use Rattle.rmp_wire.specs.Canonical.{heads_of, SpellsAs}
 use Rattle.rmp_wire.specs.Heads.{canon_head}
 use Rattle.rmp_wire.specs.Msg.{Msg, Msgs, count, depth, depth_all}
-use Rattle.rmp_decode.specs.Exact.{IsDataEnd, RefusesBy}
-use Rattle.rmp_decode.specs.Law.{Readable}
+use Rattle.rmp_decode.specs.Exact.{FaultTold, IsDataEnd, RefusesBy}
+use Rattle.rmp_decode.specs.Law.{Lawful, Readable}
 use Rattle.rmp_decode.specs.Rows.{ReadsEach}
-use Rattle.rmp_decode.specs.Seq.{seq_head, not_seq, levels, SpellsIn, SpellsRow, inner_of}
+use Rattle.rmp_decode.specs.Seq.{seq_head, not_seq, levels, SpellsIn, SpellsRow, inner_of, IsOpen, TakesElement, FailsToTake}
 use Rattle.rmp_decode.specs.State.{left, faults_of, room_of}
 use Rattle.rmp_decode.specs.declared.deserializer.Deserializer.{Deserializer}
 use Rattle.rmp_decode.specs.declared.access.seq.SeqAccess.{SeqAccess}
@@ -33,7 +33,7 @@ setting_of human lends d = record { human = human; lends = lends; strict = d.str
 abbrev pub element_setting : {R C : Type 0} → Bool → Bool → SeqAccess R C → Setting
 element_setting human lends s = record { human = human; lends = lends; strict = s.de.now.strict; room = inner_of s }
 
--- that of a read from a slice
+-- the setting of a read from a slice
 abbrev pub slice_setting : Bool → Setting
 slice_setting strict = record { human = false; lends = true; strict = strict; room = 1024 }
 
@@ -41,17 +41,25 @@ slice_setting strict = record { human = false; lends = true; strict = strict; ro
 abbrev pub inside : Setting → ℕ → Setting
 inside s room = record { human = s.human; lends = s.lends; strict = s.strict; room = room }
 
--- What is known of the error, by how many faults the source had before and after, and what was left, where that is told.
+-- What is known of a read's error, by how many faults the source had before and after, and what was left, where that is told.
 abbrev pub Refusals : Type 1
 Refusals = ℕ → ℕ → Option (List ℕ) → Error → Type 0
 
--- nothing
+-- nothing is known of the error
 abbrev pub any_refusal : Refusals
 any_refusal before after known e = Unit {0}
 
 -- A ready reader that was in one state and is in another then refuses so.
 abbrev pub RefusesAs : {R C V : Type 0} → Ghosts R → Bool → Bool → (Setting → Refusals) → Deserializer R C → Deserializer R C → Result V Error → Type 0
-RefusesAs g human lends P old new result = old.failed ≡ false → IfErr result (P (setting_of human lends old) (faults_of g old) (faults_of g new) (left g old))
+RefusesAs g human lends P old new result = old.failed ≡ false
+    → IfErr result (P (setting_of human lends old) (faults_of g old) (faults_of g new) (left g old))
+
+-- All that the read of a value promises: the value or a refusal, which error comes, and that memory can't run out where the type wants none.
+pub record ReadsAs {R C V : Type 0} (g : Ghosts R) (human lends wants : Bool) (reads : Msg → V → Type 0) (P : Setting → Refusals)
+    (old new : Deserializer R C) (result : Result V Error) : Type 0 where
+  pub law : Lawful g reads old new result
+  pub refused : RefusesAs g human lends P old new result
+  pub memory : wants ≡ false → IfErr result (λ e. e ≢ OutOfMemory)
 
 -- after a message of which Q holds it is refused as P says
 pub record AfterMessage (s : Setting) (Q : Msg → Type 0) (P : Option (List ℕ) → Error → Type 0) (known : Option (List ℕ)) (e : Error) : Type 0 where
@@ -66,18 +74,39 @@ pub record AfterMessage (s : Setting) (Q : Msg → Type 0) (P : Option (List ℕ
 
 -- how a value in memory of its own is: the type refuses it, or memory ran out after it
 abbrev pub RefusesBoxed : {V : Type 0} → (Bool → Bool → Msg → V → Type 0) → (Setting → Refusals) → Setting → Refusals
-RefusesBoxed reads P s before after known e = P s before after known e ⊎ AfterMessage s (Readable (reads s.human s.lends)) (λ rest e. e ≡ OutOfMemory) known e
+RefusesBoxed reads P s before after known e = P s before after known e
+    ⊎ AfterMessage s (Readable (reads s.human s.lends)) (λ rest e. e ≡ OutOfMemory) known e
 
--- how an element of a list is refused, or a byte that is read as a number: so as the type refuses its canonical head, or none was left
+-- how a byte that is read as a number is refused: so as the type refuses its canonical head, or none was left
+abbrev pub RefusedByte : Refusals → Refusals
+RefusedByte P before after None e = IsDataEnd e ⊎ ((there : Option (List ℕ)) × P before after there e)
+RefusedByte P before after (Some []) e = IsDataEnd e
+RefusedByte P before after (Some (b ∷ xs)) e = P before after (Some (canon_head (Whole (pos b)) ++ xs)) e
+
+-- how an element of a list is refused, or of bytes, where the source may also have a fault
 abbrev pub RefusedIn : Bool → Refusals → Refusals
 RefusedIn false P before after known e = P before after known e
-RefusedIn true P before after None e = Unit {0}
-RefusedIn true P before after (Some []) e = after ≡ before → IsDataEnd e
-RefusedIn true P before after (Some (b ∷ xs)) e = after ≡ before → P before after (Some (canon_head (Whole (pos b)) ++ xs)) e
+RefusedIn true P before after known e = FaultTold before after e ⊎ RefusedByte P before after known e
 
 -- the same of the next element of an access that was in one state and is in another then
-abbrev pub ElementRefused : {R C : Type 0} → Ghosts R → Bool → Bool → (Setting → Refusals) → SeqAccess R C → SeqAccess R C → Option (List ℕ) → Error → Type 0
+abbrev pub ElementRefused : {R C : Type 0} → Ghosts R → Bool → Bool → (Setting → Refusals) → SeqAccess R C → SeqAccess R C → Option (List ℕ) → Error
+    → Type 0
 ElementRefused g human lends P old new = RefusedIn old.bytes (P (element_setting human lends old)) (faults_of g old.de.now) (faults_of g new.de.now)
+
+-- there was an element, and it was refused: what that says of the bytes, and which error it is
+pub record RefusesElement {R C V : Type 0} (g : Ghosts R) (human lends : Bool) (reads : Msg → V → Type 0) (P : Setting → Refusals)
+    (old new : SeqAccess R C) (e : Error) : Type 0 where
+  pub fails : FailsToTake g reads old new e
+  pub named : ElementRefused g human lends P old new (left g old.de.now) e
+
+-- all that the read of an element promises
+pub record ReadsElement {R C V : Type 0} (g : Ghosts R) (human lends : Bool) (reads : Bool → Bool → Msg → V → Type 0) (P : Setting → Refusals)
+    (takes_memory : Bool) (old new : SeqAccess R C) (result : Result V Error) : Type 0 where
+  pub same_reference : new.de.ghost_name ≡ old.de.ghost_name
+  pub answers : IsOpen old → MatchResult result (TakesElement g (reads human lends) old new) (RefusesElement g human lends (reads human lends) P old new)
+  pub memory : takes_memory ≡ false → IfErr result (λ e. e ≢ OutOfMemory)
+  pub failed : OnErr result (new.sound ≡ false)
+  pub marked : old.de.now.failed ≡ true → new.de.now.failed ≡ true
 
 -- where there is an element to come, it is refused so
 abbrev pub WhereSome : (Option (List ℕ) → Error → Type 0) → ℕ → Option (List ℕ) → Error → Type 0

@@ -14,10 +14,6 @@ abbrev pub NoMore : Msgs → Type 0
 NoMore no_items = Unit {0}
 NoMore (item m ms) = ⊥
 
--- any items
-abbrev pub Anything : Msgs → Type 0
-Anything ms = Unit {0}
-
 -- an item of which P holds, and then items of which Q does
 abbrev pub AndThen : (Msg → Type 0) → (Msgs → Type 0) → Msgs → Type 0
 AndThen P Q no_items = ⊥

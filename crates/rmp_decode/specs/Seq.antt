@@ -7,7 +7,7 @@ use Rattle.rmp_wire.specs.declared.head.Head.{Head}
 use Rattle.rmp_wire.specs.declared.head.Head.TheVariants.{Array, Bin}
 use Rattle.rmp_wire.specs.declared.marker.Marker.{Marker}
 use Rattle.rmp_wire.specs.declared.source.Source.{Ghosts}
-use Rattle.rmp_wire.specs.Msg.{Msg, nil, truth, whole, float32, float64, text, bin, list, map, extension, Msgs, no_items, item, count, depth, depth_all}
+use Rattle.rmp_wire.specs.Msg.{Msg, whole, bin, list, Msgs, no_items, item, count, depth, depth_all}
 use Rattle.rmp_wire.specs.Canonical.{SpellsAs}
 use Rattle.rmp_wire.specs.Spelling.{Joined}
 use Rattle.rmp_decode.specs.Law.{TakesHead, Refuses, Readable, Explains}
@@ -20,23 +20,16 @@ use Rattle.rmp_decode.specs.declared.error.Error.{Error}
 use Rattle.rmp_decode.specs.declared.error.Error.TheVariants.{DepthLimitExceeded, Syntax}
 use Rattle.rmp_decode.specs.declared.text.Text.TheVariants.{InvalidType}
 
--- the numbers that bytes are
+-- a list of the numbers that bytes are
 abbrev pub numbers : List ℕ → Msgs
 numbers [] = no_items
 numbers (b ∷ s) = item (whole (pos b)) (numbers s)
 
 -- a list whose items are such, or bytes whose numbers are
 abbrev pub OfRow : (Msgs → Type 0) → Msg → Type 0
-OfRow Q nil = ⊥
-OfRow Q (truth t) = ⊥
-OfRow Q (whole z) = ⊥
-OfRow Q (float32 n) = ⊥
-OfRow Q (float64 n) = ⊥
-OfRow Q (text s) = ⊥
 OfRow Q (bin s) = Q (numbers s)
 OfRow Q (list ms) = Q ms
-OfRow Q (map ps) = ⊥
-OfRow Q (extension tag s) = ⊥
+OfRow Q m = ⊥
 
 abbrev pub IsSeq : Msg → Type 0
 IsSeq m = OfRow (λ ms. Unit {0}) m

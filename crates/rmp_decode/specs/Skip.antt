@@ -7,6 +7,7 @@ use Rattle.rmp_wire.specs.Msg.{Msg, Msgs, count, depth_all}
 use Rattle.rmp_wire.specs.Canonical.{SpellsAs}
 use Rattle.rmp_wire.specs.Spelling.{IsBytes}
 use Rattle.rmp_decode.specs.Law.{Explains}
+use Rattle.rmp_decode.specs.Pieces.{PullsPayload}
 use Rattle.rmp_decode.specs.Seq.{SpellsRow, RefusesRow}
 use Rattle.rmp_decode.specs.State.{left, faults_of, Stays}
 use Rattle.rmp_decode.specs.declared.deserializer.Deserializer.{Deserializer}
@@ -31,6 +32,10 @@ pub record Passes (len : ℕ) (old new : Option (List ℕ)) : Type 0 where
   pub long : length bytes ≡ len
   pub are_bytes : IsBytes bytes
   pub taken : Consumes old new bytes
+
+-- all that passing over so many bytes promises
+abbrev pub PassesPayload : {R : Type 0} → Ghosts R → Bool → ℕ → R → R → Result (Unit {0}) Error → Type 0
+PassesPayload g lends n old new result = PullsPayload g n lends (λ before after _. Passes n before after) old new result
 
 -- so many messages were taken, one after another
 pub record PassesRow {R C : Type 0} (g : Ghosts R) (room n : ℕ) (old new : Deserializer R C) : Type 0 where

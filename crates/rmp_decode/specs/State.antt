@@ -30,10 +30,6 @@ alloc_of d = d.alloc
 abbrev pub is_failed : {R C : Type 0} → Deserializer R C → Bool
 is_failed d = d.failed
 
--- the limit on nesting, as it was set last
-abbrev pub limit_of : {R C : Type 0} → Deserializer R C → ℕ
-limit_of d = d.limit
-
 -- only canonical heads are taken
 abbrev pub is_strict : {R C : Type 0} → Deserializer R C → Bool
 is_strict d = d.strict

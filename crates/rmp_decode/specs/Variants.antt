@@ -1,6 +1,7 @@
 -- What the variants of an enum are read from: a name alone, or a map of one pair, from a name to content.
-use Rattle.std.specs.Prelude.{◌≡◌, ℕ, zero, suc, ◌+◌, max, Bool, true, false, List, Option, Some, None, MatchOption, Result, Ok, Err, OnOk, OnErr, ◌⊎◌}
-use Rattle.std.specs.Borrow.{GName}
+use Rattle.std.specs.Prelude.{◌≡◌, ◌≢◌, ◌<◌, ℕ, zero, suc, ◌+◌, ◌-◌, max, Bool, true, false, List, length, Option, Some, None, MatchOption}
+use Rattle.std.specs.Prelude.{Result, MatchResult, Ok, Err, OnOk, OnErr, ◌⊎◌}
+use Rattle.std.specs.Borrow.{Bor, GName}
 use Rattle.std.specs.Option.{option_and_then, option_map}
 use Rattle.rmp_wire.specs.declared.head.Head.{Head}
 use Rattle.rmp_wire.specs.declared.head.Head.TheVariants.{Map}
@@ -13,7 +14,7 @@ use Rattle.rmp_decode.specs.Content.{IsRawHead, RefusesContent}
 use Rattle.rmp_decode.specs.Exact.{RefusesBy}
 use Rattle.rmp_decode.specs.Law.{Reads, TakesHead, Refuses, Readable, Explains, Lawful, IsFailedBefore}
 use Rattle.rmp_decode.specs.MapRefusing.{OpenedMap}
-use Rattle.rmp_decode.specs.Names.{name_of}
+use Rattle.rmp_decode.specs.Names.{bytes_of, name_of}
 use Rattle.rmp_decode.specs.Parts.{TakesPart}
 use Rattle.rmp_decode.specs.Refusing.{Setting, Refusals, setting_of}
 use Rattle.rmp_decode.specs.Seq.{IsSeq, IsOpen, inner_of, levels, seq_head, not_seq}
@@ -25,7 +26,7 @@ use Rattle.rmp_decode.specs.declared.deserializer.Kept.TheVariants.{Nothing}
 use Rattle.rmp_decode.specs.declared.access.seq.SeqAccess.{SeqAccess}
 use Rattle.rmp_decode.specs.declared.access.variant.Variant.{Variant}
 use Rattle.rmp_decode.specs.declared.error.Error.{Error}
-use Rattle.rmp_decode.specs.declared.error.Error.TheVariants.{DepthLimitExceeded, LengthMismatch, Syntax, TypeMismatch}
+use Rattle.rmp_decode.specs.declared.error.Error.TheVariants.{DepthLimitExceeded, LengthMismatch, OutOfMemory, Syntax, TypeMismatch}
 use Rattle.rmp_decode.specs.declared.text.Text.TheVariants.{InvalidType}
 
 -- ---- what types read of variants
@@ -175,6 +176,29 @@ pub record FailsToOpenVariant {R C : Type 0} (g : Ghosts R) (names : List (List 
   pub exact : old.failed ≡ false → (human lends : Bool) → RefusesVariant (setting_of human lends old) (faults_of g old) (faults_of g new) (left g old) e
   pub named : old.failed ≡ false → (human lends : Bool) → RefusesVariantOf names (setting_of human lends old) (faults_of g old) (faults_of g new) (left g old) e
 
+-- ---- all that the read of a name promises, which comes before the content
+
+-- the name was taken of the variant at that place
+pub record NamesVariant {R C : Type 0} (g : Ghosts R) (names : List (Bor (List ℕ))) (bare : Bool) (old new : Deserializer R C) (inner n : ℕ) : Type 0 where
+  pub fresh : old.failed ≡ false
+  pub name : TakesNameOf g (bytes_of names) n bare old new inner
+  pub stays : Stays g old new
+  pub faults_same : faults_of g new ≡ faults_of g old
+  pub marked : new.failed ≡ true
+  pub clean : new.kept ≡ Nothing
+  pub below : n < length names
+
+-- there was none
+pub record NamesNone {R C : Type 0} (g : Ghosts R) (names : List (Bor (List ℕ))) (lends : Bool) (old new : Deserializer R C) (e : Error) : Type 0 where
+  pub fails : FailsToOpenVariant g (bytes_of names) old new e
+  pub memory : lends ≡ true → e ≢ OutOfMemory
+
+abbrev pub OpensName : {R C : Type 0} → Ghosts R → List (Bor (List ℕ)) → Bool → Deserializer R C → Deserializer R C → Result (ℕ × Bool) Error → Type 0
+OpensName g names lends old new result =
+    MatchResult result (λ p. NamesVariant g names p.1 old new (old.room - 1) p.0) (NamesNone g names lends old new)
+
+-- ---- content
+
 -- how content is refused where nil is wanted
 abbrev pub not_unit : Marker → Head → Error
 not_unit m h = TypeMismatch m
@@ -195,16 +219,16 @@ module _ {R C : Type 0} (g : Ghosts R) where
       → Lawful g (λ m (u : Unit {0}). OfVariant names (IfAt n Bare) m) old last (Err e)
 
   -- its content was read, by whether the format is for people
-  abbrev pub ReadsContent : {V : Type 0} → (C → Bool) → (Bool → Msg → V → Type 0) → Variant R C → Deserializer R C → V → Type 0
+  abbrev pub ReadsContent : {V : Type 0} → Bool → (Bool → Msg → V → Type 0) → Variant R C → Deserializer R C → V → Type 0
   ReadsContent human reads v last x =
       (names : List (List ℕ)) (n : ℕ) (old : Deserializer R C) → OpensVariant g names n old v
-      → Lawful g (λ m y. OfVariant names (IsAt n (Content (λ k. reads (human old.config) k y))) m) old last (Ok x)
+      → Lawful g (λ m y. OfVariant names (IsAt n (Content (λ k. reads human k y))) m) old last (Ok x)
 
   -- or it has none, or such that is refused
-  abbrev pub RefusesContentOf : (C → Bool) → (Bool → Msg → Type 0) → Variant R C → Deserializer R C → Error → Type 0
+  abbrev pub RefusesContentOf : Bool → (Bool → Msg → Type 0) → Variant R C → Deserializer R C → Error → Type 0
   RefusesContentOf human holds v last e =
       (names : List (List ℕ)) (n : ℕ) (old : Deserializer R C) → OpensVariant g names n old v
-      → Lawful g (λ m (u : Unit {0}). OfVariant names (IfAt n (Content (holds (human old.config)))) m) old last (Err e)
+      → Lawful g (λ m (u : Unit {0}). OfVariant names (IfAt n (Content (holds human))) m) old last (Err e)
 
   -- which error it is, by whether only canonical heads are read
   abbrev pub ContentRefusedBy : (Bool → Refusals) → Variant R C → Deserializer R C → Error → Type 0
@@ -223,7 +247,7 @@ pub record OpensSeqIn {R C : Type 0} (g : Ghosts R) (inner : ℕ) (old : Deseria
 
 -- there is none
 pub record FailsToOpenSeqOf {R C : Type 0} (g : Ghosts R) (v : Variant R C) (last : Deserializer R C) (e : Error) : Type 0 where
-  pub err : RefusesContentOf g (λ c. true) (λ human. Readable (λ m (u : Unit {0}). IsSeq m)) v last e
+  pub err : RefusesContentOf g true (λ human. Readable (λ m (u : Unit {0}). IsSeq m)) v last e
   pub bare : v.bare ≡ true → (e ≡ Syntax InvalidType) × (last ≡ v.de.now)
   pub exact : v.bare ≡ false → ContentRefusedBy g (λ strict. RefusesBy strict (not_seq (max 1 v.inner))) v last e
 

@@ -1,9 +1,8 @@
 -- Numbers of 128 bits: what is read as one, and how what isn't is refused.
-use Rattle.std.specs.Prelude.{◌≡◌, ◌≢◌, ◌⊎◌, true, ℕ, ℤ, pos, negsuc, List, Option, Result, IfOk, IfErr, OnOk, length}
+use Rattle.std.specs.Prelude.{◌≡◌, ◌⊎◌, true, ℕ, ℤ, pos, negsuc, List, Option, Result, length}
 use Rattle.std.specs.Int.{w128, from_be_bytes, cast_signed}
 use Rattle.std.specs.Io.KnownBytes.{Consumes}
 use Rattle.rmp_wire.specs.Msg.{Msg, whole, bin}
-use Rattle.rmp_wire.specs.Sources.{IsShort}
 use Rattle.rmp_wire.specs.Spelling.{IsBytes}
 use Rattle.rmp_wire.specs.declared.head.Head.{Head}
 use Rattle.rmp_wire.specs.declared.head.Head.TheVariants.{Whole, Bin, Array}
@@ -11,11 +10,10 @@ use Rattle.rmp_wire.specs.declared.marker.Marker.{Marker}
 use Rattle.rmp_wire.specs.declared.marker.Marker.TheVariants.{FixArray}
 use Rattle.rmp_wire.specs.declared.source.Source.{Ghosts}
 use Rattle.rmp_decode.specs.Content.{never_refused}
-use Rattle.rmp_decode.specs.Exact.{IsDataEnd, TellsFault}
-use Rattle.rmp_decode.specs.Law.{Explains}
 use Rattle.rmp_decode.specs.Payloads.{Kind}
+use Rattle.rmp_decode.specs.Pieces.{PullsPayload}
 use Rattle.rmp_decode.specs.declared.error.Error.{Error}
-use Rattle.rmp_decode.specs.declared.error.Error.TheVariants.{LengthMismatch, OutOfMemory, OutOfRange, TypeMismatch}
+use Rattle.rmp_decode.specs.declared.error.Error.TheVariants.{LengthMismatch, OutOfRange, TypeMismatch}
 
 -- 16 bytes, the highest first, of a number without a sign
 pub record IsSixteen (m : Msg) (n : ℕ) : Type 0 where
@@ -65,14 +63,8 @@ pub record TakesSixteen (old new : Option (List ℕ)) (n : ℕ) : Type 0 where
   pub number : n ≡ from_be_bytes w128 bytes
 
 -- the next 16 bytes were read as a number without a sign, or there are fewer
-pub record ReadsSixteen {S : Type 0} (g : Ghosts S) (old new : S) (result : Result ℕ Error) : Type 0 where
-  pub ok : IfOk result (TakesSixteen (g.ahead old) (g.ahead new))
-  pub sound : OnOk result (g.faults new ≡ g.faults old)
-  pub err : IfErr result (λ e. Explains e (g.faults old) (g.faults new) (IsShort 16 (g.ahead old)))
-  pub end : IfErr result (λ e. Explains e (g.faults old) (g.faults new) (IsDataEnd e))
-  pub fault : IfErr result (TellsFault (g.faults old) (g.faults new))
-  pub memory : IfErr result (λ e. e ≢ OutOfMemory)
-  pub place : g.place new ≡ g.place old
+abbrev pub ReadsSixteen : {S : Type 0} → Ghosts S → S → S → Result ℕ Error → Type 0
+ReadsSixteen g old new result = PullsPayload g 16 true TakesSixteen old new result
 
 -- ---- the kinds
 

@@ -1,10 +1,11 @@
 -- What an access lends to a function that reads a part, and how it answers by what that function answers.
-use Rattle.std.specs.Prelude.{◌≡◌, ◌+◌, ℕ, Bool, true, false, Result, Ok, Err, Option, Some, OnOk, MatchResult, if◌then◌else◌}
+use Rattle.std.specs.Prelude.{◌≡◌, ◌+◌, ℕ, Bool, true, false, Result, Ok, Err, IfErr, Option, Some, OnOk, OnErr, MatchResult, if◌then◌else◌}
 use Rattle.std.specs.Borrow.{MutBor}
 use Rattle.std.specs.Fn.{Once, FnOnceTakesAtMut, FnOnceReturnsAtMut}
 use Rattle.std.specs.Io.KnownBytes.{IsAtEnd}
+use Rattle.rmp_wire.specs.declared.error.IoFault.{IoFault}
 use Rattle.rmp_wire.specs.declared.source.Source.{Ghosts}
-use Rattle.rmp_decode.specs.Exact.{IsDataEnd}
+use Rattle.rmp_decode.specs.Exact.{IsDataEnd, UnlessFault}
 use Rattle.rmp_decode.specs.Law.{Explains}
 use Rattle.rmp_decode.specs.Seq.{KeepsByte}
 use Rattle.rmp_decode.specs.State.{faults_of, Stays, levels_outside}
@@ -12,7 +13,7 @@ use Rattle.rmp_decode.specs.declared.deserializer.Deserializer.{Deserializer}
 use Rattle.rmp_decode.specs.declared.access.map.MapAccess.{MapAccess}
 use Rattle.rmp_decode.specs.declared.access.seq.SeqAccess.{SeqAccess}
 use Rattle.rmp_decode.specs.declared.error.Error.{Error}
-use Rattle.rmp_decode.specs.declared.error.Error.TheVariants.{Uncategorized}
+use Rattle.rmp_decode.specs.declared.error.Error.TheVariants.{InvalidDataRead, Uncategorized}
 use Rattle.rmp_decode.specs.declared.text.Text.TheVariants.{FailedBefore}
 
 -- functions that read a part from a reader
@@ -49,6 +50,21 @@ abbrev pub OffersPart : {R C : Type 0} → Ghosts R → Bool → Deserializer R 
 OffersPart g true old new = OffersByte g old new
 OffersPart g false old new = new ≡ old
 
+-- a buffered byte was kept back (true), or nothing happened
+pub record OffersAhead {R C : Type 0} (g : Ghosts R) (old new : Deserializer R C) (kept : Bool) : Type 0 where
+  pub ok : kept ≡ true → OffersByte g old new
+  pub failed : kept ≡ true → new.failed ≡ old.failed
+  pub none : kept ≡ false → new ≡ old
+
+-- All that the offer of an element does, of bytes or of a list. Only a byte can be missing.
+pub record Offers {R C : Type 0} (g : Ghosts R) (in_bytes : Bool) (old new : Deserializer R C) (result : Result (Unit {0}) IoFault) : Type 0 where
+  pub ok : OnOk result (OffersPart g in_bytes old new)
+  pub bytes : OnErr result (in_bytes ≡ true)
+  pub stays : Stays g old new
+  pub failed : new.failed ≡ old.failed
+  pub err : IfErr result (λ f. Explains (InvalidDataRead f) (faults_of g old) (faults_of g new) (IsAtEnd (g.ahead old.reader)))
+  pub end : IfErr result (λ f. UnlessFault (faults_of g old) (faults_of g new) (InvalidDataRead f) (IsDataEnd (InvalidDataRead f)))
+
 -- the reader as the next element is read from it
 pub record Lends {R C : Type 0} (g : Ghosts R) (s : SeqAccess R C) (d : Deserializer R C) : Type 0 where
   pub from : Deserializer R C
@@ -69,14 +85,14 @@ pub record PartRead {F R C X : Type 0} (g : Ghosts R) (once : Reading F R C X) (
   pub answers : MatchResult given (λ x. result ≡ Ok (Some x)) (λ e. result ≡ Err e)
   pub fewer : OnOk result (old.left ≡ new.left + 1)
 
--- The bytes ended before the element, and f wasn't called.
+-- The bytes ended before the element, or the source had a fault, and f wasn't called.
 pub record PartMissing {R C X : Type 0} (g : Ghosts R) (old new : SeqAccess R C) (result : Result (Option X) Error) : Type 0 where
   pub bytes : old.bytes ≡ true
   pub error : Error
   pub answers : result ≡ Err error
   pub stays : Stays g old.de.now new.de.now
   pub err : Explains error (faults_of g old.de.now) (faults_of g new.de.now) (IsAtEnd (g.ahead old.de.now.reader))
-  pub end : faults_of g new.de.now ≡ faults_of g old.de.now → IsDataEnd error
+  pub end : UnlessFault (faults_of g old.de.now) (faults_of g new.de.now) error (IsDataEnd error)
 
 -- the list's counts but that of what is left stay
 pub record SameList {R C : Type 0} (old new : SeqAccess R C) : Type 0 where

@@ -5,17 +5,8 @@ use Rattle.rmp_decode.specs.declared.error.Error.{Error}
 use Rattle.rmp_decode.specs.declared.error.Error.TheVariants.{Syntax}
 use Rattle.rmp_decode.specs.declared.text.OwnText.{OwnText}
 use Rattle.rmp_decode.specs.declared.text.Text.{Text}
-use Rattle.rmp_decode.specs.declared.text.Text.TheVariants.{
-  FailedBefore,
-  InvalidType,
-  InvalidValue,
-  InvalidLength,
-  UnknownVariant,
-  DuplicateField,
-  MissingField,
-  ReadByExt,
-  Own,
-}
+use Rattle.rmp_decode.specs.declared.text.Text.TheVariants.{FailedBefore, InvalidType, InvalidValue, InvalidLength, UnknownVariant, DuplicateField}
+use Rattle.rmp_decode.specs.declared.text.Text.TheVariants.{MissingField, ReadByExt, Own}
 
 -- the longest beginning of the bytes that is UTF-8
 abbrev pub own_words : OwnText → List ℕ

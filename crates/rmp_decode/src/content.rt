@@ -17,7 +17,8 @@ pub(crate) mod cold;
 pub(crate) mod pieces;
 mod texts;
 
-use crate::access::variant::next_variant;
+use crate::access::names::place_of;
+use crate::access::variant::unknown_name;
 use crate::content::pieces::{error_of, owned};
 use crate::error::Error;
 use rmp_wire::{ReadSlice, Source};
@@ -124,6 +125,15 @@ impl<'de, R: ReadSlice<'de>> ReadContent<R> for Slices<'de> {
 
     #[inline(always)]
     fn variant(reader: &mut R, names: &[&str], is_text: bool, len: usize) -> Result<usize, Error> {
-        next_variant(reader, names, is_text, len)
+        match reader.read_slice(len) {
+            Ok(piece) => {
+                let name = piece.as_bytes();
+                match place_of(names, name) {
+                    Some(place) => Ok(place),
+                    None => Err(unknown_name(is_text, name)),
+                }
+            }
+            Err(e) => Err(error_of(e)),
+        }
     }
 }

@@ -2,21 +2,17 @@
 ghost use Rattle.std.specs.Prelude.{◌≡◌, ◌≢◌, Some, true, false, Bool, Option, IfOk, IfErr, IfSome};
 ghost use Rattle.rmp_wire.specs.Canonical.{IsCanonical};
 ghost use Rattle.rmp_wire.specs.Spelling.{Spells};
-ghost use Rattle.rmp_decode.specs.State.{config_of};
 ghost use Rattle.rmp_decode.specs.Law.{Begins, Readable, Lawful};
 ghost use Rattle.rmp_decode.specs.Refusing.{slice_setting};
-ghost use Rattle.rmp_decode.specs.Readers.{source_setting, ReadFrom, RefusedBy, TakenFrom, RefusedFrom};
+ghost use Rattle.rmp_decode.specs.Readers.{source_setting, ReadFrom, RefusedBy, ReadsSource, TakenFrom, RefusedFrom};
 
 mod arrays;
 pub(crate) mod defaults;
 mod elements;
 mod lists;
 mod maps;
-mod numbers;
-mod options;
 mod pointers;
 mod sets;
-mod texts;
 mod tuples;
 
 use crate::deserializer::Deserializer;
@@ -48,8 +44,8 @@ pub trait Deserialize<'de, R: ReadSlice<'de>>: Sized + Drop {
 
     /// Reads one message.
     fn deserialize<C: SerializerConfig>(de: &mut Deserializer<R, C>) -> Result<Self, Error>
-        ensures law { Lawful R.Source (reads (C.human (config_of de.old)) R.lends) de.old de.new result }
-        ensures refused { RefusesAs R.Source (C.human (config_of de.old)) R.lends refuses de.old de.new result }
+        ensures law { Lawful R.Source (reads C.human R.lends) de.old de.new result }
+        ensures refused { RefusesAs R.Source C.human R.lends refuses de.old de.new result }
         ensures memory { takes_memory R.lends ≡ false → IfErr result (λ e. e ≢ Error.OutOfMemory) };
 
     /// Returns the value of a field that is missing, if there is one.
@@ -153,10 +149,7 @@ trait ReadMoved<R: Source + Drop, V: Drop> {
     ghost takes_memory: { Bool };
 
     fn read(alloc: Global, source: R) -> (R, Result<V, Error>)
-        ensures ok { IfOk result.1 (ReadFrom R.Source reads source result.0) }
-        ensures err { IfErr result.1 (RefusedBy R.Source reads refuses source result.0) }
-        ensures place { R.place result.0 ≡ R.place source }
-        ensures memory { takes_memory ≡ false → IfErr result.1 (λ e. e ≢ Error.OutOfMemory) };
+        ensures { ReadsSource R.Source takes_memory reads refuses source result.0 result.1 };
 }
 
 // A value that is read by its type.
@@ -185,19 +178,13 @@ fn read_moved<R: Source + Drop, V: Drop, P: ReadMoved<R, V>>(
     alloc: Global,
     rd: &mut R,
 ) -> Result<V, Error>
-    ensures ok { IfOk result (ReadFrom R.Source P.reads rd.old rd.new) }
-    ensures err { IfErr result (RefusedBy R.Source P.reads P.refuses rd.old rd.new) }
-    ensures place { R.place rd.new ≡ R.place rd.old }
-    ensures memory { P.takes_memory ≡ false → IfErr result (λ e. e ≢ Error.OutOfMemory) }
+    ensures { ReadsSource R.Source P.takes_memory P.reads P.refuses rd.old rd.new result }
 {
     replace_with(
         rd,
         alloc,
         |source: R, alloc: Global|
-            ensures ok { IfOk result.1 (ReadFrom R.Source P.reads source result.0) }
-            ensures err { IfErr result.1 (RefusedBy R.Source P.reads P.refuses source result.0) }
-            ensures place { R.place result.0 ≡ R.place source }
-            ensures memory { P.takes_memory ≡ false → IfErr result.1 (λ e. e ≢ Error.OutOfMemory) }
+            ensures { ReadsSource R.Source P.takes_memory P.reads P.refuses source result.0 result.1 }
         { P::read(alloc, source) },
     )
 }
@@ -258,7 +245,7 @@ pub fn from_read<'de, R: Source + Drop, T: Deserialize<'de, ReadReader<R>>>(
 ) -> Result<T, Error>
     // The value is the reading of a tree that a prefix of the source's bytes encodes.
     ensures ok { IfOk result (λ v. IfSome (R.ahead rd) (Begins Spells (λ m. T.reads false false m v) 1024)) }
-    // It is the reading of a tree, also if the source doesn't tell its bytes. In some state of the source that tree's
+    // It is the reading of a tree, also if the source doesn't tell its bytes. In some state of the source, with the same place, that tree's
     // encoding alone is consumed, if the source tells its bytes.
     ensures taken { IfOk result (TakenFrom R.Source (T.reads false false) rd) }
     // An error that is neither for memory nor for a fault means that no prefix encodes a tree that the type reads.

@@ -296,7 +296,7 @@ impl<R, C: SerializerConfig> Deserializer<R, C> {
 impl<R: Source, C: SerializerConfig> Deserializer<R, C> {
     /// Returns whether types with a human-readable and a compact form are read from the human-readable one.
     pub fn is_human_readable(&self) -> bool
-        ensures { result ≡ C.human (config_of self.now) }
+        ensures { result ≡ C.human }
     {
         self.config.is_human_readable()
     }
@@ -368,11 +368,11 @@ impl<R: Source, C: SerializerConfig> Deserializer<R, C> {
         R: ReadSlice<'de>,
         // `None` is the end, and nothing was consumed. A value is the reading of the next message, and an error its
         // refusal.
-        ensures law { NextRead R.Source (T.reads (C.human (config_of self.old)) R.lends) self.old self.new result }
+        ensures law { NextRead R.Source (T.reads C.human R.lends) self.old self.new result }
         // An error isn't the end: the message's first byte is there, unless the source had a fault.
         ensures there { is_failed self.old ≡ false → IfErr result (λ e. faults_of R.Source self.new ≡ faults_of R.Source self.old → IsThere (left R.Source self.old)) }
         // Where the type says which error names what is wrong, it is that one.
-        ensures refused { RefusesAs R.Source (C.human (config_of self.old)) R.lends (RefusesNext T.refuses) self.old self.new result }
+        ensures refused { RefusesAs R.Source C.human R.lends (RefusesNext T.refuses) self.old self.new result }
         ensures memory { T.takes_memory R.lends ≡ false → IfErr result (λ e. e ≢ Error.OutOfMemory) }
     {
         match self.finds_next() {

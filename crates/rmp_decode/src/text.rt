@@ -1,5 +1,5 @@
 //! Why something was refused, in words.
-ghost use Rattle.std.specs.Prelude.{◌≡◌, ◌≤◌, length, take, IsUtf8};
+ghost use Rattle.std.specs.Prelude.{◌≡◌, ◌≤◌, length};
 
 use std::fmt::{Debug, Display};
 use std::{fmt, str};

@@ -1,36 +1,7 @@
 -- The fields of a struct, and what is written of them.
-use Rattle.std.proofs.Common.{
-  ◌≡◌,
-  ℕ,
-  ◌+◌,
-  ◌-◌,
-  ◌<◌,
-  ◌≤◌,
-  ◌^◌,
-  List,
-  [],
-  ◌∷◌,
-  ◌++◌,
-  length,
-  Bool,
-  true,
-  false,
-  Option,
-  None,
-  Some,
-  refl,
-  sym,
-  ◌∙◌,
-  ap,
-  subst,
-  arith,
-  append_assoc,
-  get_or,
-  drop,
-  take,
-}
+use Rattle.std.proofs.Common.{◌≡◌, ℕ, ◌+◌, ◌-◌, ◌<◌, ◌≤◌, ◌^◌, List, [], ◌∷◌, ◌++◌, length, Bool, true, false, Option, None, Some, refl, sym, ◌∙◌, ap, subst, arith, append_assoc, drop, take}
 use Rattle.std.specs.Borrow.{Bor}
-use Rattle.std.proofs.lemmas.List.{drop_more, length-drop}
+use Rattle.std.proofs.lemmas.List.{length-drop}
 use Rattle.std.proofs.Math.Seq.{take-length}
 use Rattle.std.proofs.lemmas.Grind.{flat_map-append}
 use Rattle.std.specs.Prelude.{◌&&◌}
@@ -41,41 +12,12 @@ use Rattle.rmp_wire.specs.Msg.{Msg, item, list, map, pair}
 use Rattle.rmp_wire.specs.declared.sink.Sink.{Ghosts}
 use Rattle.rmp_encode.specs.declared.serializer.Serializer.{Serializer}
 use Rattle.rmp_encode.specs.declared.settings.Settings.{Settings}
-use Rattle.rmp_encode.specs.Data.{
-  Data,
-  Parts,
-  part,
-  Entries,
-  entry,
-  Fields,
-  field,
-  text,
-  sequence,
-  mapping,
-  structure,
-  map_or_list,
-  lower,
-  lower_named,
-  lower_values,
-  lower_entries,
-  lower_parts,
-}
+use Rattle.rmp_encode.specs.Data.{Data, Parts, part, Entries, entry, Fields, field, text, sequence, mapping, structure, map_or_list, lower}
+use Rattle.rmp_encode.specs.Data.{lower_named, lower_values, lower_entries, lower_parts}
 use Rattle.rmp_encode.specs.Going.{AreMany, IsMadeOf, IsWriting, head_at}
 use Rattle.rmp_encode.specs.Ser.{settings_of}
-use Rattle.rmp_encode.specs.Trees.{
-  byte_of,
-  entries_of,
-  fields_by,
-  fields_of,
-  field_parts,
-  mapping_of,
-  name_parts,
-  parts_of,
-  push_field,
-  sequence_of,
-  structure_of,
-  tree_of,
-}
+use Rattle.rmp_encode.specs.Trees.{byte_of, entries_of, fields_by, fields_of, field_parts, mapping_of, name_parts, parts_of, push_field, sequence_of}
+use Rattle.rmp_encode.specs.Trees.{structure_of, tree_of}
 use Rattle.rmp_encode.proofs.Going.{made_as}
 use Rattle.rmp_encode.proofs.Lists.{made_list, made_map}
 
@@ -92,11 +34,6 @@ field_left true false left left' f rest is l h = omega (arith, l, h)
 field_left false named left left' f rest is l h = absurd cc
 
 module _ {W C : Type 0} (g : Ghosts W) where
-  -- a field's name, and then its value
-  pub field_split : (named : Bool) (f : List ℕ × Option Data) {old now : Serializer W C} {t : Option Msg} (rest : List (Option Data))
-      → IsWriting g old t (field_parts named f ++ rest) now → IsWriting g old t (name_parts named f.0 ++ (f.1 ∷ rest)) now
-  field_split named f {old} {now} {t} rest h = subst (λ l. IsWriting g old t l now) (append_assoc (name_parts named f.0) (f.1 ∷ []) rest) h
-
   name_as : (name : List ℕ) {old now : Serializer W C} {t : Option Msg} (rest : List (Option Data)) (b : Bool) → (settings_of now).named ≡ b
       → IsWriting g old t (name_parts (settings_of old).named name ++ rest) now → IsWriting g old t (name_parts b name ++ rest) now
   name_as name {old} {now} {t} rest b is h = subst (λ n. IsWriting g old t (name_parts n name ++ rest) now)
@@ -218,17 +155,6 @@ pub fields_many : (ns : List (Bor (List ℕ))) (ds : List (Option Data)) (n : �
 fields_many ns [] n e f = f
 fields_many [] (d ∷ ds) n e f = e
 fields_many (x ∷ ns) (d ∷ ds) n e f = let r = fields_many ns ds (length ns) refl (omega (arith, e, f)) in omega (arith, r, e)
-
-pub next_named : {W C : Type 0} (g : Ghosts W) {old now : Serializer W C} {t : Option Msg} (ns : List (Bor (List ℕ))) (i : ℕ) (z : Bor (List ℕ))
-    (d : Option Data) (ds rest : List (Option Data)) → i < length ns
-    → IsWriting g old t (flat_map (field_parts (settings_of old).named) (fields_by (drop i ns) (d ∷ ds)) ++ rest) now
-    → IsWriting g old t (field_parts (settings_of old).named ((get_or ns i z).now, d)
-    ++ (flat_map (field_parts (settings_of old).named) (fields_by (drop (i + 1) ns) ds) ++ rest)) now
-next_named g {old} {now} {t} ns i z d ds rest lt h =
-    let f = field_parts (settings_of old).named in
-    subst (λ l. IsWriting g old t l now)
-    (ap (λ l. flat_map f (fields_by l (d ∷ ds)) ++ rest) (drop_more ns i z lt)
-    ∙ append_assoc (f ((get_or ns i z).now, d)) (flat_map f (fields_by (drop (i + 1) ns) ds)) rest) h
 
 -- ---- fields in two parts
 

@@ -1,30 +1,6 @@
 -- What was opened has written, step by step, whatever compound holds it.
-use Rattle.std.proofs.Common.{
-  ◌≡◌,
-  ℕ,
-  ◌+◌,
-  ◌<◌,
-  ◌≤◌,
-  List,
-  [],
-  ◌∷◌,
-  ◌++◌,
-  length,
-  map,
-  drop,
-  get_or,
-  drop_of_length-le,
-  Bool,
-  true,
-  Option,
-  refl,
-  sym,
-  ◌∙◌,
-  ap,
-  subst,
-  append_assoc,
-  append-nil,
-}
+use Rattle.std.proofs.Common.{◌≡◌, ℕ, ◌+◌, ◌<◌, ◌≤◌, List, [], ◌∷◌, ◌++◌, length, map, drop, get_or, drop_of_length-le, Bool, true, Option, refl, sym}
+use Rattle.std.proofs.Common.{◌∙◌, ap, subst, append_assoc, append-nil}
 use Rattle.std.specs.Prelude.{Result, Ok, Err, OnOk, OnErr, IfErr, IsTrue, MatchResult}
 use Rattle.std.specs.List.{flat_map, AllByRecursion}
 use Rattle.std.proofs.lemmas.List.{flat_map_more, drop_more}
@@ -175,19 +151,6 @@ module _ {W C : Type 0} (g : Ghosts W) where
       → IsWriting g old t some now → IsWriting g old t rest now
   still_written {old} {t} {some} {rest} {now} e h = subst (λ l. IsWriting g old t l now) e h
 
-  -- of several parts, as a loop has them: one more was written, one failed, and none is left
-  pub next_ok : (d : Settings → Option Data) {m : Bool} (now now' : Serializer W C) (u : Unit {0}) → Keeps g now now'
-      → WritesTree g m (tree_of (settings_of now) (d (settings_of now))) (sink_of now) (sink_of now') (Ok u)
-      → (old : Serializer W C) (t : Option Msg) (rest some : List (Option Data)) → some ≡ d (settings_of old) ∷ rest → IsWriting g old t some now
-      → IsWriting g old t rest now'
-  next_ok d {m} now now' u k w old t rest some e h = goes (λ _. m) d now now' (Ok u) k w old t rest (still_written e h)
-
-  pub next_err : (m : Settings → Bool) (d : Settings → Option Data) (now now' : Serializer W C) (x : Error) → Keeps g now now'
-      → WritesTree g {A = Unit {0}} (m (settings_of now)) (tree_of (settings_of now) (d (settings_of now))) (sink_of now) (sink_of now') (Err x)
-      → (old : Serializer W C) (t : Option Msg) (rest some : List (Option Data)) → some ≡ d (settings_of old) ∷ rest → IsWriting g old t some now
-      → WritesTree g {A = Unit {0}} (m (settings_of old)) t (sink_of old) (sink_of now') (Err x)
-  next_err m d now now' x k w old t rest some e h = goes m d now now' (Err x) k w old t rest (still_written e h)
-
   pub none_next : {m : Bool} (old : Serializer W C) (t : Option Msg) (rest : List (Option Data)) (now : Serializer W C) (u : Unit {0}) → rest ≡ []
       → IsWriting g old t rest now → WritesTree g m t (sink_of old) (sink_of now) (Ok u)
   none_next {m} old t rest now u e h = closes m old t now u (still_written e h)
@@ -201,7 +164,12 @@ module _ {W C : Type 0} (g : Ghosts W) where
       (w old t [] (still_written (sym (append-nil (parts (settings_of old)))) h))
   all_written m parts now now' (Err e) w old t h = w old t [] (still_written (sym (append-nil (parts (settings_of old)))) h)
 
-  -- nothing was opened
+  -- nothing was opened: what is known of that
+  pub failed_to_open : {A X : Type 0} {items : List (List ℕ)} {P : Type 0} {may : X → Type 0} {value : X → Option Data} {old last : Serializer W C}
+      (r : Result A Error) (e : Error) → r ≡ Err e → OnErr r (FailsToOpen g items P may value old r last) → FailsToOpen g {A = A} items P may value old (Err e) last
+  failed_to_open {items = items} {P = P} {may = may} {value = value} {old = old} {last = last} r e is h =
+      subst (λ k. OnErr k (FailsToOpen g items P may value old k last)) is h
+
   pub unopened : {A X : Type 0} (items : List (List ℕ)) (P : Type 0) (may : X → Type 0) (value : X
       → Option Data) (old last : Serializer W C) (all : X) (r : Result A Error) (e : Error) → r ≡ Err e → OnErr r (FailsToOpen g items P may value old r last)
       → may all

@@ -3,13 +3,16 @@ pub mod Fields
 pub mod Going
 pub mod Keeping
 pub mod Leaves
+pub mod Listing
 pub mod Lists
 pub mod Markers
+pub mod Names
 pub mod Numbers
 pub mod OpenSteps
 pub mod Packed
 pub mod Packing
 pub mod Parts
+pub mod Promises
 pub mod Refusals
 pub mod Spelled
 pub mod TupleSteps

@@ -1,31 +1,5 @@
 -- The tree of a list or a map of values, from the trees of the values.
-use Rattle.std.proofs.Common.{
-  ◌≡◌,
-  ℕ,
-  zero,
-  suc,
-  ◌+◌,
-  ◌<◌,
-  ◌≤◌,
-  ◌^◌,
-  List,
-  [],
-  ◌∷◌,
-  ◌++◌,
-  length,
-  Bool,
-  true,
-  false,
-  Option,
-  None,
-  Some,
-  refl,
-  sym,
-  ◌∙◌,
-  ap,
-  subst,
-  arith,
-}
+use Rattle.std.proofs.Common.{◌≡◌, ℕ, zero, suc, ◌+◌, ◌<◌, ◌^◌, List, [], ◌∷◌, ◌++◌, length, Bool, true, false, Option, None, Some, refl, sym, ◌∙◌, ap, subst, arith}
 use Rattle.std.specs.List.{flat_map, AllByRecursion}
 use Rattle.std.specs.Option.{option_map}
 use Rattle.rmp_wire.proofs.Writing.{head_some}
@@ -36,21 +10,8 @@ use Rattle.rmp_wire.specs.Spelling.{FitsAll, FitsPairs, canon, canon_all, canon_
 use Rattle.rmp_encode.specs.declared.settings.Settings.{Settings}
 use Rattle.rmp_encode.specs.Data.{Data, Parts, part, sequence, Entries, entry, mapping, lower, lower_parts, lower_entries}
 use Rattle.rmp_encode.specs.Going.{AreMany, head_at, open_of, IsMadeOf}
-use Rattle.rmp_encode.specs.Trees.{
-  Has,
-  HasTree,
-  array_head,
-  map_head,
-  byte_of,
-  parts_of,
-  entries_of,
-  in_turn,
-  sequence_of,
-  mapping_of,
-  spell,
-  spelling,
-  tree_of,
-}
+use Rattle.rmp_encode.specs.Trees.{Has, HasTree, array_head, map_head, byte_of, parts_of, entries_of, in_turn, sequence_of, mapping_of, spell}
+use Rattle.rmp_encode.specs.Trees.{spelling, tree_of}
 
 -- what the data of a list say of its parts
 unfoldable pub Tells : Settings → List (Option Data) → Option Parts → Type 0
@@ -182,9 +143,6 @@ made_list s n ds e = made false s n ds e
 pub made_map : (s : Settings) (n : ℕ) (ds : List (Option Data)) → length ds ≡ n + n → IsMadeOf s (tree_of s (mapping_of ds)) (n < 2 ^ 32) (head_at true n) ds
 unfolding open_of
 made_map s n ds e = made true s n ds e
-
-pub not_less : {n m : ℕ} → ¬ (n < m) → m ≤ n
-not_less {n} {m} h = omega (arith, h)
 
 -- a head has a first byte
 pub head_at_some : (pairs : Bool) (n : ℕ) → 0 < length (head_at pairs n)

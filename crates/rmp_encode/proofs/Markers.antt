@@ -1,10 +1,10 @@
 -- Of several items and values that are written in order: at which of them a write failed.
-use Rattle.std.proofs.Common.{◌≡◌, ◌+◌, ◌-◌, ◌<◌, ◌≤◌, Bool, true, false, Option, Some, List, ℕ, [], ◌∷◌, ◌++◌, inl, inr, refl, sym, ◌∙◌, ap, subst, arith}
-use Rattle.std.proofs.Common.{append_assoc, drop, get_or, length, take}
-use Rattle.std.specs.Prelude.{Result, Ok, Err, IfErr}
+use Rattle.std.proofs.Common.{◌≡◌, ◌-◌, ◌<◌, ◌≤◌, ◌^◌, Bool, true, false, Option, Some, List, ℕ, [], ◌∷◌, ◌++◌, inl, inr, refl, sym, ◌∙◌, ap, subst, arith}
+use Rattle.std.proofs.Common.{append_assoc, drop, length, take}
+use Rattle.std.specs.Prelude.{Result, Ok, Err, OnOk}
 use Rattle.std.specs.Borrow.{Bor}
 use Rattle.std.proofs.KnownBytes.{Appends-nil, Appends-trans}
-use Rattle.std.proofs.lemmas.List.{drop_more, length-drop}
+use Rattle.std.proofs.lemmas.List.{length-drop}
 use Rattle.std.proofs.Math.Seq.{take-length}
 use Rattle.std.specs.List.{flat_map}
 use Rattle.std.specs.Io.KnownBytes.{Appends}
@@ -14,27 +14,31 @@ use Rattle.rmp_encode.specs.declared.error.Error.{Error}
 use Rattle.rmp_encode.specs.declared.error.Error.TheVariants as errors
 use Rattle.rmp_encode.specs.declared.settings.Settings.{Settings}
 use Rattle.rmp_encode.specs.Errors.{IsTooLong}
+use Rattle.rmp_wire.specs.Heads.{fits_head}
 use Rattle.rmp_wire.specs.Msg.{text}
 use Rattle.rmp_wire.specs.Spelling.{canon}
 use Rattle.rmp_encode.specs.declared.serializer.Serializer.{Serializer}
 use Rattle.rmp_encode.specs.Data.{Data}
+use Rattle.rmp_encode.specs.Refusals.{RefusesLength}
 use Rattle.rmp_encode.specs.Ser.{settings_of, sink_of}
-use Rattle.rmp_encode.specs.Trees.{spell, tree_of}
-use Rattle.rmp_encode.specs.Markers.{field_pieces, item, items_of, name_pieces, no_fault, pieces_by, value_of, AllPieces, AtPieces, FaultAt, InOrder, Piece}
-use Rattle.rmp_encode.specs.Writes.{AppendsFirst, AppendsSome, FailsBy, FirstAtMarker, MarkedBy, Marks, NoneAtMarker, WritesPart, WritesTree}
+use Rattle.rmp_encode.specs.Trees.{spell, tree_of, HasTree}
+use Rattle.rmp_encode.specs.Markers.{field_pieces, item, items_of, name_pieces, no_fault, pieces_by, refusal, value_of, AllPieces, AtName, AtPieces, AtRefusal, FaultAt, InOrder, Piece}
+use Rattle.rmp_encode.specs.Writes.{AppendsFirst, FailsBy, FirstAtMarker, MarkedBy, Marks, NoneAtMarker, WritesPart, WritesTree}
+use Rattle.rmp_encode.proofs.Going.{on_ok}
+use Rattle.rmp_encode.proofs.OpenSteps.{on_ok_as}
 
 all_then : (ps qs : List Piece) (old mid new : Option (List ℕ)) → AllPieces ps old mid → AllPieces qs mid new → AllPieces (ps ++ qs) old new
 all_then [] qs old mid new a h = subst (λ x. AllPieces qs x new) (sym a) h
-all_then (p ∷ ps) qs old mid new a h = (a.0, a.1, all_then ps qs a.0 mid new a.2 h)
+all_then (p ∷ ps) qs old mid new a h = (a.0, a.1, a.2, all_then ps qs a.0 mid new a.3 h)
 
 at_back : (ps qs : List Piece) (old mid new : Option (List ℕ)) (e : Error) → AllPieces ps old mid → AtPieces qs mid new e → AtPieces (ps ++ qs) old new e
 at_back [] qs old mid new e a h = subst (λ x. AtPieces qs x new e) (sym a) h
-at_back (p ∷ ps) qs old mid new e a h = inr (a.0, a.1, at_back ps qs a.0 mid new e a.2 h)
+at_back (p ∷ ps) qs old mid new e a h = inr (a.0, a.1, a.2, at_back ps qs a.0 mid new e a.3 h)
 
 at_front : (ps qs : List Piece) (old new : Option (List ℕ)) (e : Error) → AtPieces ps old new e → AtPieces (ps ++ qs) old new e
 at_front [] qs old new e h = absurd h
 at_front (p ∷ ps) qs old new e (inl h) = inl h
-at_front (p ∷ ps) qs old new e (inr h) = inr (h.0, h.1, at_front ps qs h.0 new e h.2)
+at_front (p ∷ ps) qs old new e (inr h) = inr (h.0, h.1, h.2, at_front ps qs h.0 new e h.3)
 
 -- a length was refused before anything was written
 at_long : (bytes : List ℕ) (ps : List Piece) (told : Option (List ℕ)) (e : Error) → IsTooLong e → AtPieces (item bytes ∷ ps) told told e
@@ -51,7 +55,7 @@ first_items : (items : List (List ℕ)) (old new : Option (List ℕ)) (fault : _
 first_items [] old new fault h = absurd h
 first_items (bytes ∷ items) old new fault (inl h) = record { front = []; next = bytes; rest = items; split = refl; appended = h.1 }
 first_items (bytes ∷ items) old new fault (inr h) =
-    let later = first_items items h.0 new fault h.2 in
+    let later = first_items items h.0 new fault h.3 in
     record {
       front = bytes ∷ later.front;
       next = later.next;
@@ -71,6 +75,29 @@ pieces_split named [] (p ∷ ps) qs l = absurd (omega (arith, l))
 pieces_split named (n ∷ ns) (p ∷ ps) qs l =
     ap (λ fs. field_pieces named n.now p ++ fs) (pieces_split named ns ps qs (omega (arith, l)))
     ∙ sym (append_assoc (field_pieces named n.now p) (pieces_by named (take (length ps) ns) ps) (pieces_by named (drop (length ps) ns) qs))
+
+-- a text that is in a message has fewer than 2 ^ 32 bytes
+pub text_fits : (name : List ℕ) → HasTree (Some (text name)) → length name < 2 ^ 32
+unfolding HasTree fits_head
+text_fits name h = h.0
+
+-- of what comes later
+pub at_after : (first ps qs : List Piece) (new : Option (List ℕ)) (e : Error)
+    → ((mid : Option (List ℕ)) → AtPieces ps mid new e → AtPieces qs mid new e) → (old : Option (List ℕ)) → AtPieces (first ++ ps) old new e
+    → AtPieces (first ++ qs) old new e
+at_after [] ps qs new e f old h = f old h
+at_after (p ∷ first) ps qs new e f old (inl h) = inl h
+at_after (p ∷ first) ps qs new e f old (inr h) = inr (h.0, h.1, h.2, at_after first ps qs new e f h.0 h.3)
+
+-- a name past 32 bits is never whole: it is refused, or something before it failed
+pub at_long_name : (before : List (Bor (List ℕ))) (name : Bor (List ℕ)) (after : List (Bor (List ℕ))) (ps : List Piece) (new : Option (List ℕ)) (e : Error)
+    → 2 ^ 32 ≤ length name.now → (old : Option (List ℕ)) → AtPieces (pieces_by true (before ++ name ∷ after) ps) old new e
+    → AtPieces (pieces_by true before ps ++ refusal ∷ []) old new e
+at_long_name before name after [] new e le old h = absurd h
+at_long_name [] name after (p ∷ ps) new e le old (inl h) = inl (h.0, (h.1).1 le)
+at_long_name [] name after (p ∷ ps) new e le old (inr h) = let lt = h.2 in absurd (omega (arith, lt, le))
+at_long_name (b ∷ before) name after (p ∷ ps) new e le old h = at_after (field_pieces true b.now p) (pieces_by true (before ++ name ∷ after) ps)
+    (pieces_by true before ps ++ refusal ∷ []) new e (at_long_name before name after ps new e le) old h
 
 -- where no fault was counted, there was none
 pub none_counted : (m : Bool) (P : Type 0) (n : ℕ) (old new : Option (List ℕ)) (e : Error) → FailsBy m P n n e → no_fault old new e
@@ -94,9 +121,9 @@ long_no_fault old new errors.OutOfMemory is = tt
 module _ {W : Type 0} (g : Ghosts W) where
   -- one piece
   pub one_piece : {m : Bool} {P : Type 0} (p : Piece) {old new : W} (r : Result (Unit {0}) Error) → WritesPart g m P p.0 old new r
-      → MarkedBy g p.1 old new r → InOrder g (p ∷ []) old new r
-  one_piece p {old} {new} (Ok u) w h = record { whole = (g.told new, w.whole, refl); stops = tt }
-  one_piece p (Err e) w h = record { whole = tt; stops = inl (w.front, h) }
+      → MarkedBy g p.1 old new r → OnOk r p.2 → InOrder g (p ∷ []) old new r
+  one_piece p {old} {new} (Ok u) w h may = record { whole = (g.told new, w.whole, may, refl); stops = tt }
+  one_piece p (Err e) w h may = record { whole = tt; stops = inl (w.front, h) }
 
   pub nothing_written : (w : W) (u : Unit {0}) → InOrder g [] w w (Ok u)
   nothing_written w u = record { whole = refl; stops = tt }
@@ -131,22 +158,33 @@ module _ {W : Type 0} (g : Ghosts W) where
       (r : Result (Unit {0}) Error) → settings_of now ≡ s → WritesTree g m (tree_of (settings_of now) (d (settings_of now))) (sink_of now) new r
       → MarkedBy g (marks (settings_of now)) (sink_of now) new r → InOrder g (value_of s (d s) (marks s) ∷ []) (sink_of now) new r
   value_piece d marks now r e w h = pieces_as (λ z. value_of z (d z) (marks z) ∷ []) e
-      (one_piece (value_of (settings_of now) (d (settings_of now)) (marks (settings_of now))) r w h)
-
-  pub field_piece : (d : Settings → Option Data) (marks : Settings → Marks) (name : List ℕ) {s s' : Settings} {old new : W} {r : Result (Unit {0}) Error}
-      → s ≡ s' → InOrder g (field_pieces s.named name (value_of s (d s) (marks s))) old new r
-      → InOrder g (field_pieces s'.named name (value_of s' (d s') (marks s'))) old new r
-  field_piece d marks name e h = pieces_as (λ z. field_pieces z.named name (value_of z (d z) (marks z))) e h
+      (one_piece (value_of (settings_of now) (d (settings_of now)) (marks (settings_of now))) r w h (on_ok r tt))
 
   -- the name of a field, where structs are written without names, and with them
   pub name_none : (name : List ℕ) {named : Bool} {w : W} {u : Unit {0}} → named ≡ false → InOrder g (name_pieces named name) w w (Ok u)
   name_none name {named} {w} {u} is = subst (λ b. InOrder g (name_pieces b name) w w (Ok u)) (sym is) (nothing_written w u)
 
-  pub name_written : (name : List ℕ) {m named : Bool} {old new : W} (r : Result (Unit {0}) Error) → named ≡ true → WritesTree g m (Some (text name)) old new r
-      → NoneAtMarker g old new r → InOrder g (name_pieces named name) old new r
+  refused_name : {C : Type 0} (old new : Serializer W C) (e : Error) → RefusesLength {A = Unit {0}} old new (Err e)
+      → AtRefusal (g.told (sink_of old)) (g.told (sink_of new)) e
+  refused_name old new (errors.InvalidDataModel t) h =
+      (h.0, subst (λ se. Appends (g.told (sink_of old)) (g.told (sink_of se)) []) (sym h.1) (Appends-nil (g.told (sink_of old))))
+  refused_name old new (errors.InvalidValueWrite fault) h = absurd h
+  refused_name old new errors.UnknownLength h = absurd h
+  refused_name old new errors.DepthLimitExceeded h = absurd h
+  refused_name old new (errors.Syntax t) h = absurd h
+  refused_name old new errors.OutOfMemory h = absurd h
+
+  name_marked : {C : Type 0} (name : List ℕ) (old new : Serializer W C) (r : Result (Unit {0}) Error) → NoneAtMarker g (sink_of old) (sink_of new) r
+      → (2 ^ 32 ≤ length name → RefusesLength old new r) → MarkedBy g (AtName name) (sink_of old) (sink_of new) r
+  name_marked name old new (Ok u) h long = tt
+  name_marked name old new (Err e) h long = (h, λ le. refused_name old new e (long le))
+
+  pub name_written : {C : Type 0} (name : List ℕ) {m named : Bool} (old new : Serializer W C) (r : Result (Unit {0}) Error) → named ≡ true
+      → WritesTree g m (Some (text name)) (sink_of old) (sink_of new) r → NoneAtMarker g (sink_of old) (sink_of new) r
+      → (2 ^ 32 ≤ length name → RefusesLength old new r) → InOrder g (name_pieces named name) (sink_of old) (sink_of new) r
   unfolding spell
-  name_written name {m} {named} {old} {new} r is w h = subst (λ b. InOrder g (name_pieces b name) old new r) (sym is)
-      (one_piece (item (canon (text name))) r w h)
+  name_written name {m} {named} old new r is w h long = subst (λ b. InOrder g (name_pieces b name) (sink_of old) (sink_of new) r) (sym is)
+      (one_piece (canon (text name), AtName name, length name < 2 ^ 32) r w (name_marked name old new r h long) (on_ok_as r (text_fits name) w.may))
 
   -- at which of several items the sink failed
   pub order_first : (items : List (List ℕ)) (old new : W) (e : Error) → InOrder g {A = Unit {0}} (items_of items) old new (Err e)
@@ -163,13 +201,6 @@ module _ {W : Type 0} (g : Ghosts W) where
   pub fault_at : {ps : List Piece} {old new : W} (r : Result (Unit {0}) Error) → InOrder g ps old new r → MarkedBy g (FaultAt ps) old new r
   fault_at (Ok u) h = tt
   fault_at (Err e) h = inr h.stops
-
-  -- the next field, with its name
-  pub next_pieces : (named : Bool) (ns : List (Bor (List ℕ))) (i : ℕ) (z : Bor (List ℕ)) (p : Piece) (ps : List Piece) {old new : W}
-      {r : Result (Unit {0}) Error} → i < length ns
-      → InOrder g (field_pieces named (get_or ns i z).now p ++ pieces_by named (drop (i + 1) ns) ps) old new r
-      → InOrder g (pieces_by named (drop i ns) (p ∷ ps)) old new r
-  next_pieces named ns i z p ps {old} {new} {r} lt h = subst (λ l. InOrder g (pieces_by named l (p ∷ ps)) old new r) (sym (drop_more ns i z lt)) h
 
   -- the first fields, and then the others
   pub pieces_halves : (named : Bool) (ns : List (Bor (List ℕ))) (k : ℕ) (ps qs : List Piece) {old new : W} {r : Result (Unit {0}) Error}

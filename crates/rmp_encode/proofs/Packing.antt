@@ -7,46 +7,10 @@ use Rattle.rmp_encode.specs.declared.settings.Settings.{Settings}
 use Rattle.rmp_wire.specs.declared.config.BytesMode.{BytesMode}
 use Rattle.rmp_wire.specs.declared.config.BytesMode.TheVariants.{Normal, ForceIterables, ForceAll}
 use Rattle.rmp_wire.specs.Heads.{fits_head}
-use Rattle.rmp_encode.specs.Data.{
-  Data,
-  Parts,
-  part,
-  no_parts,
-  byte,
-  sequence,
-  slice,
-  tuple,
-  lower,
-  lower_parts,
-  byte_in,
-  push_byte,
-  all_bytes,
-  packs_slice,
-  packs_tuple,
-  packed,
-  bin_or_list,
-}
-use Rattle.rmp_encode.specs.Data.{
-  unit,
-  truth,
-  whole,
-  unsigned128,
-  signed128,
-  float32,
-  float64,
-  char,
-  text,
-  bytes,
-  wrapped,
-  unit_struct,
-  mapping,
-  structure,
-  unit_variant,
-  newtype_variant,
-  tuple_variant,
-  struct_variant,
-  extension,
-}
+use Rattle.rmp_encode.specs.Data.{Data, Parts, part, no_parts, byte, sequence, slice, tuple, lower, lower_parts, byte_in, push_byte, all_bytes}
+use Rattle.rmp_encode.specs.Data.{packs_slice, packs_tuple, packed, bin_or_list}
+use Rattle.rmp_encode.specs.Data.{unit, truth, whole, unsigned128, signed128, float32, float64, char, text, bytes, wrapped, unit_struct, mapping}
+use Rattle.rmp_encode.specs.Data.{structure, unit_variant, newtype_variant, tuple_variant, struct_variant, extension}
 use Rattle.rmp_encode.specs.Trees.{HasTree, a_byte, byte_of, forces_all, forces_slices, parts_of, sequence_of, slice_of, tree_of, tuple_of}
 use Rattle.rmp_wire.specs.Msg.{Msgs, bin, count, list}
 use Rattle.rmp_wire.specs.Spelling.{Fits}

@@ -1,28 +1,5 @@
 -- How writes of parts join.
-use Rattle.std.proofs.Common.{
-  inl,
-  ◌≡◌,
-  ℕ,
-  zero,
-  suc,
-  List,
-  [],
-  ◌∷◌,
-  ◌++◌,
-  get_or,
-  length-append,
-  Bool,
-  true,
-  false,
-  Option,
-  refl,
-  sym,
-  ◌∙◌,
-  ap,
-  subst,
-  append_assoc,
-  arith,
-}
+use Rattle.std.proofs.Common.{inl, ◌≡◌, ℕ, List, [], ◌∷◌, ◌++◌, length-append, Bool, true, false, Option, refl, sym, ◌∙◌, ap, subst, append_assoc, arith}
 use Rattle.std.specs.Prelude.{Result, Ok, Err, IsTrue, ◌||◌}
 use Rattle.std.specs.Io.KnownBytes.{Appends}
 use Rattle.std.proofs.KnownBytes.{Appends-trans, Appends-nil}
@@ -116,21 +93,9 @@ or_left : (b c : Bool) → IsTrue b → IsTrue (b || c)
 or_left true c h = h
 or_left false c h = absurd cc
 
-one_at : (bs : List Bool) (i : ℕ) → IsTrue (get_or bs i false) → IsTrue (one_of bs)
-one_at [] i h = absurd cc
-one_at (b ∷ bs) zero h = or_left b (one_of bs) h
-one_at (b ∷ bs) (suc i) h = or_right b (one_of bs) (one_at bs i h)
-
 or_as : (b c m : Bool) → (IsTrue b → IsTrue c) → IsTrue (b || m) → IsTrue (c || m)
 or_as true c m f h = or_left c m (f refl)
 or_as false c m f h = or_right c m h
-
-pub or_one_of : (a m : Bool) (bs : List Bool) (i : ℕ) → IsTrue ((a || get_or bs i false) || m) → IsTrue ((a || one_of bs) || m)
-or_one_of true m bs i h = refl
-or_one_of false m bs i h = or_as (get_or bs i false) (one_of bs) m (one_at bs i) h
-
-pub one_of_or : (m : Bool) (bs : List Bool) (i : ℕ) → IsTrue (get_or bs i false || m) → IsTrue (one_of bs || m)
-one_of_or m bs i h = or_as (get_or bs i false) (one_of bs) m (one_at bs i) h
 
 -- of parts after others, the first ones may allocate, or the later ones
 front_some : (bs cs : List Bool) → IsTrue (one_of bs) → IsTrue (one_of (bs ++ cs))
@@ -147,16 +112,6 @@ front_or m bs cs h = or_as (one_of bs) (one_of (bs ++ cs)) m (front_some bs cs) 
 
 pub back_or : (m : Bool) (bs cs : List Bool) → IsTrue (one_of cs || m) → IsTrue (one_of (bs ++ cs) || m)
 back_or m bs cs h = or_as (one_of cs) (one_of (bs ++ cs)) m (back_some bs cs) h
-
-or_each : (a b c m : Bool) → (IsTrue b → IsTrue c) → IsTrue ((a || b) || m) → IsTrue ((a || c) || m)
-or_each true b c m f h = refl
-or_each false b c m f h = or_as b c m f h
-
-pub or_front : (a m : Bool) (bs cs : List Bool) → IsTrue ((a || one_of bs) || m) → IsTrue ((a || one_of (bs ++ cs)) || m)
-or_front a m bs cs h = or_each a (one_of bs) (one_of (bs ++ cs)) m (front_some bs cs) h
-
-pub or_back : (a m : Bool) (bs cs : List Bool) → IsTrue ((a || one_of cs) || m) → IsTrue ((a || one_of (bs ++ cs)) || m)
-or_back a m bs cs h = or_each a (one_of cs) (one_of (bs ++ cs)) m (back_some bs cs) h
 
 module _ {W : Type 0} (g : Ghosts W) where
   -- a write that was done

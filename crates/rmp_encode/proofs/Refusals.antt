@@ -1,20 +1,16 @@
 -- Whose error a write answers.
 use Rattle.std.proofs.Common.{◌≡◌, ℕ, zero, suc, ◌<◌, ◌≤◌, ◌^◌, List, [], ◌∷◌, ◌++◌, length, take, drop, get_or, nat_le, Bool, true, false}
 use Rattle.std.proofs.Common.{inl, inr, refl, sym, subst, arith}
-use Rattle.std.specs.Prelude.{◌||◌, T, Result, Ok, Err, IfErr, OnErr, Option}
+use Rattle.std.specs.Prelude.{◌||◌, T, Result, Err, IfErr}
 use Rattle.std.specs.Borrow.{Bor}
 use Rattle.std.specs.List.{Any, list_any}
 use Rattle.std.proofs.lemmas.Result.{IfErr-weaker}
 use Rattle.rmp_wire.specs.declared.error.ValueWriteError.{ValueWriteError}
 use Rattle.rmp_wire.specs.declared.error.ValueWriteError.TheVariants as wire
 use Rattle.rmp_wire.specs.declared.sink.Sink.{Ghosts}
-use Rattle.rmp_wire.specs.Faults.{past_first}
 use Rattle.rmp_encode.specs.declared.error.Error.{Error}
 use Rattle.rmp_encode.specs.declared.error.Error.TheVariants.{InvalidValueWrite, UnknownLength, InvalidDataModel, DepthLimitExceeded, Syntax, OutOfMemory}
-use Rattle.rmp_encode.specs.declared.serializer.Serializer.{Serializer}
-use Rattle.rmp_encode.specs.Data.{Data}
 use Rattle.rmp_encode.specs.Errors.{IsTooLong, error_of}
-use Rattle.rmp_encode.specs.Going.{FailsToOpen}
 use Rattle.rmp_encode.specs.Refusals.{lengths, AnyLong, Errors, OfItems, OfLength, OfParts, OfSink, RefusesLength}
 use Rattle.rmp_encode.specs.Writes.{FailsBy, NoneAtMarker}
 
@@ -33,9 +29,6 @@ of_cause m n k DepthLimitExceeded h = h
 of_cause m n k (Syntax t) h = absurd (h.0 tt)
 of_cause m n k OutOfMemory h = tt
 
-pub on_cause : (m : Bool) (n k : ℕ) (r : Result (Unit {0}) Error) → IfErr r (FailsBy m (Unit {0}) n k) → IfErr r OfSink
-on_cause m n k r h = IfErr-weaker r (FailsBy m (Unit {0}) n k) OfSink (of_cause m n k) h
-
 -- under another condition
 pub of_weaker : {P Q : Type 0} → (P → Q) → (e : Error) → OfLength P e → OfLength Q e
 of_weaker f (InvalidValueWrite fault) h = tt
@@ -53,10 +46,6 @@ of_sink P e h = of_weaker {Q = P} absurd e h
 
 pub on_sink : (P : Type 0) (r : Result (Unit {0}) Error) → IfErr r OfSink → IfErr r (OfLength P)
 on_sink P r h = on_weaker {Q = P} r absurd h
-
--- a number that has no head
-pub of_past : (n : ℕ) (e : Error) → OfLength (2 ^ 32 ≤ n) e → OfLength (¬ (n < 2 ^ 32)) e
-of_past n e h = of_weaker {Q = ¬ (n < 2 ^ 32)} (λ le lt. omega (arith, le, lt)) e h
 
 pub on_fits : (n : ℕ) (r : Result (Unit {0}) Error) → n < 2 ^ 32 → IfErr r (OfLength (2 ^ 32 ≤ n)) → IfErr r OfSink
 on_fits n r lt h = on_weaker {Q = ⊥} r (λ le. omega (arith, le, lt)) h
@@ -108,6 +97,12 @@ or_more false c d f h = f h
 pub long_after : (n : ℕ) (rest : List ℕ) → AnyLong rest → AnyLong (n ∷ rest)
 long_after n rest h = or_after (nat_le (2 ^ 32) n) (list_any (nat_le (2 ^ 32)) rest) h
 
+pub long_past : (n : ℕ) → AnyLong (n ∷ []) → ¬ (n < 2 ^ 32)
+long_past n h lt = subst (λ x. T (x || false)) (not_long n lt) h
+
+pub long_alone : (n : ℕ) → AnyLong (n ∷ []) → 2 ^ 32 ≤ n
+long_alone n h = let not = long_past n h in omega arith
+
 pub long_not : (a b : ℕ) → AnyLong (a ∷ b ∷ []) → ¬ ((a < 2 ^ 32) × (b < 2 ^ 32))
 long_not a b h k =
     let h' : T (false || (nat_le (2 ^ 32) b || false)) = subst (λ x. T (x || (nat_le (2 ^ 32) b || false))) (not_long a k.0) h in
@@ -118,13 +113,6 @@ long_more rest n more f h = or_more (nat_le (2 ^ 32) n) (list_any (nat_le (2 ^ 3
 
 pub long_both : (a b : ℕ) (rest : List ℕ) → AnyLong (a ∷ b ∷ []) → AnyLong (a ∷ b ∷ rest)
 long_both a b rest h = long_more (b ∷ []) a (b ∷ rest) (long_more [] b rest absurd) h
-
--- one of some names
-pub long_name : (names : List (Bor (List ℕ))) (i : ℕ) (z : Bor (List ℕ)) → i < length names → 2 ^ 32 ≤ length (get_or names i z).now
-    → AnyLong (lengths names)
-long_name [] i z lt le = absurd (omega (arith, lt))
-long_name (name ∷ names) zero z lt le = long_first (length name.now) (lengths names) le
-long_name (name ∷ names) (suc i) z lt le = long_after (length name.now) (lengths names) (long_name names i z (omega (arith, lt)) le)
 
 pub long_take : (k : ℕ) (names : List (Bor (List ℕ))) → AnyLong (lengths (take k names)) → AnyLong (lengths names)
 long_take zero names h = absurd h
@@ -161,7 +149,7 @@ of_front P [] back e h = of_no_part P back e h
 of_front P (part ∷ front) back e (inl h) = inl h
 of_front P (part ∷ front) back e (inr h) = inr (of_front P front back e h)
 
-pub of_back : (P : Type 0) (front back : List Errors) (e : Error) → OfParts P back e → OfParts P (front ++ back) e
+of_back : (P : Type 0) (front back : List Errors) (e : Error) → OfParts P back e → OfParts P (front ++ back) e
 of_back P [] back e h = h
 of_back P (part ∷ front) back e h = inr (of_back P front back e h)
 
@@ -185,12 +173,3 @@ module _ {X : Type 0} (P : X → Type 0) where
 module _ {X : Type 0} (refuses : X → Errors) where
   pub on_number : (xs : List X) (r : Result (Unit {0}) Error) → IfErr r (OfLength (2 ^ 32 ≤ length xs)) → IfErr r (OfItems refuses xs)
   on_number xs r h = IfErr-weaker r (OfLength (2 ^ 32 ≤ length xs)) (OfItems refuses xs) (λ e p. inl p) h
-
--- Nothing was opened, though the numbers at the opening fit.
-module _ {W C : Type 0} (g : Ghosts W) where
-  pub unopened_by_sink : {A X : Type 0} (items : List (List ℕ)) (P : Type 0) (may : X → Type 0) (value : X
-      → Option Data) (old last : Serializer W C) (r : Result A Error) (e : Error) → r ≡ Err e → OnErr r (FailsToOpen g items P may value old r last)
-      → P → OfSink e
-  unopened_by_sink {A} {X} items P may value old last r e is h p =
-      let f : FailsToOpen g {A = A} items P may value old (Err e) last = subst (λ k. OnErr k (FailsToOpen g items P may value old k last)) is h in
-      of_weaker {Q = ⊥} (λ not. not p) e f.error

@@ -1,16 +1,12 @@
 -- What the bytes of a whole value are.
-use Rattle.std.proofs.Common.{◌≡◌, ℕ, List, [], true, Option, None, Some, ◌++◌, refl, sym, ◌∙◌, ap, subst}
+use Rattle.std.proofs.Common.{◌≡◌, ℕ, List, [], Option, None, Some, ◌++◌, refl, sym, ◌∙◌, ap, subst}
 use Rattle.std.specs.Prelude.{Result, Ok, Err, OnOk}
-use Rattle.rmp_wire.specs.declared.error.ValueWriteError.TheVariants as wire
 use Rattle.rmp_wire.specs.Msg.{Msg}
 use Rattle.rmp_wire.proofs.Spellings.{canon_spells, canon_least}
 use Rattle.rmp_wire.proofs.Unique.{spelled_once}
 use Rattle.rmp_wire.specs.Spelling.{canon}
-use Rattle.rmp_encode.specs.declared.error.Error.{Error}
-use Rattle.rmp_encode.specs.declared.error.Error.TheVariants.{InvalidValueWrite, UnknownLength, InvalidDataModel, DepthLimitExceeded, Syntax, OutOfMemory}
-use Rattle.rmp_encode.specs.Calls.{IsSpelled, ToVecFails}
+use Rattle.rmp_encode.specs.Calls.{IsSpelled}
 use Rattle.rmp_encode.specs.Trees.{HasTree, spell}
-use Rattle.rmp_encode.specs.Writes.{FailsBy}
 
 -- the spelling of a tree that is there
 pub spelled : (t : Option Msg) → HasTree t → IsSpelled t (spell t)
@@ -28,17 +24,6 @@ spelled (Some m) h = record {
 
 pub spelled_as : (t : Option Msg) (bytes : List ℕ) → HasTree t → bytes ≡ spell t → IsSpelled t bytes
 spelled_as t bytes h e = subst (IsSpelled t) (sym e) (spelled t h)
-
--- a `Vec` has no faults
-pub to_vec_fails : (t : Option Msg) (e : Error) → FailsBy true (HasTree t) 0 0 e → ToVecFails t e
-to_vec_fails t (InvalidValueWrite (wire.InvalidMarkerWrite fault)) h = h refl
-to_vec_fails t (InvalidValueWrite (wire.InvalidDataWrite fault)) h = h refl
-to_vec_fails t (InvalidValueWrite wire.OutOfMemory) h = h
-to_vec_fails t UnknownLength h = h
-to_vec_fails t (InvalidDataModel d) h = (h.0, h.1)
-to_vec_fails t DepthLimitExceeded h = h
-to_vec_fails t (Syntax d) h = h.0
-to_vec_fails t OutOfMemory h = tt
 
 pub on_spelled : {A E : Type 0} (t : Option Msg) (r : Result A E) → OnOk r (HasTree t) → OnOk r (IsSpelled t (spell t))
 on_spelled t (Ok u) h = spelled t h

@@ -1,34 +1,7 @@
 -- A tuple, from what its state says.
-use Rattle.std.proofs.Common.{
-  ◌≡◌,
-  ℕ,
-  ◌+◌,
-  ◌<◌,
-  ◌≤◌,
-  ◌^◌,
-  List,
-  [],
-  ◌∷◌,
-  ◌++◌,
-  length,
-  map,
-  Bool,
-  true,
-  false,
-  Option,
-  None,
-  Some,
-  refl,
-  sym,
-  ◌∙◌,
-  ap,
-  subst,
-  arith,
-  append_assoc,
-  append-nil,
-  length-append,
-}
-use Rattle.std.specs.Prelude.{if◌then◌else◌, Result, Ok, Err, MatchResult, nat_le, ◌&&◌, ◌||◌}
+use Rattle.std.proofs.Common.{◌≡◌, ℕ, ◌+◌, ◌<◌, ◌≤◌, ◌^◌, List, [], ◌∷◌, ◌++◌, length, map, Bool, true, false, Option, None, Some, refl, sym, ◌∙◌, ap}
+use Rattle.std.proofs.Common.{subst, arith, append_assoc, append-nil, length-append}
+use Rattle.std.specs.Prelude.{if◌then◌else◌, Result, Ok, Err, MatchResult, nat_le, ◌&&◌, ◌||◌, OnOk}
 use Rattle.std.specs.List.{flat_map, list_any, AllByRecursion}
 use Rattle.std.proofs.lemmas.Bool.{true≢false}
 use Rattle.std.proofs.lemmas.Bool.Decides.{nat_tests}
@@ -53,7 +26,7 @@ use Rattle.rmp_encode.specs.Errors.{IsTooLong}
 use Rattle.rmp_encode.specs.Tuples.{items_kept, kept_item, spilled_items, OpenTuple, IsProbing, IsTupling, IsTuplingAt, kept_at, kept_of}
 use Rattle.rmp_encode.proofs.Parts.{or_second, part_any, part_as, part_refused, part_takes}
 use Rattle.rmp_encode.proofs.Lists.{made_list}
-use Rattle.rmp_encode.proofs.Going.{all_append, made_as, made_of, made_sure, made_ended, made_stopped, goes}
+use Rattle.rmp_encode.proofs.Going.{all_append, made_as, made_of, made_sure, made_ended, made_stopped, goes, on_ok}
 use Rattle.rmp_encode.proofs.Markers.{fault_at, nothing_written, one_piece}
 use Rattle.rmp_encode.proofs.Packing.{byte_from, tuple_can, plain_by, plain_mode, is_force_all, bytes_tree, list_tree}
 
@@ -240,6 +213,11 @@ module _ {W C : Type 0} (g : Ghosts W) where
       → IsTupling g old t rest q → IsProbing g old t rest v.items q.len q.se.now
   probe_state {old} {t} {rest} {q} v e h = subst (λ b. IsTuplingAt g old t rest b q.len q.se.now) e h.state
 
+  -- the same elements remain
+  pub still_tupling : {old : Serializer W C} {t : Option Msg} {some rest : List (Option Data)} {q : OpenTuple W C} → some ≡ rest → IsTupling g old t some q
+      → IsTupling g old t rest q
+  still_tupling {old} {t} {some} {rest} {q} e h = subst (λ l. IsTupling g old t l q) e h
+
   in_list : {old : Serializer W C} {t : Option Msg} {rest : List (Option Data)} {q : OpenTuple W C} → q.sound ≡ true → q.left ≡ length rest
       → kept_of q ≡ None → IsWriting g old t rest q.se.now → IsTupling g old t rest q
   in_list {old} {t} {rest} {q} s l e h = record { sound = s; left_is = l; state = subst (λ b. IsTuplingAt g old t rest b q.len q.se.now) (sym e) h }
@@ -280,7 +258,7 @@ module _ {W : Type 0} (g : Ghosts W) where
   item_ended : {m : Bool} {P : Type 0} (v : Vec ℕ Global) (len : ℕ) {k : Option (Vec ℕ Global)} (bytes : List ℕ) → kept_item v len ≡ bytes → k ≡ Some v
       → {old new : W} (r : Result (Unit {0}) Error) → WritesPart g m P bytes old new r → NoneAtMarker g old new r → InOrder g (items_kept k len) old new r
   item_ended v len bytes e is {old} {new} r w none = subst (λ x. InOrder g (items_kept x len) old new r) (sym is)
-      (subst (λ l. InOrder g (item l ∷ []) old new r) (sym e) (one_piece g (item bytes) r w none))
+      (subst (λ l. InOrder g (item l ∷ []) old new r) (sym e) (one_piece g (item bytes) r w none (on_ok r tt)))
 
   pub ended_packed : {m : Bool} (v : Vec ℕ Global) (len : ℕ) {k : Option (Vec ℕ Global)} → packs_tuple ForceAll v.items ≡ true → k ≡ Some v → {old new : W}
       (r : Result (Unit {0}) Error) → WritesTree g m (Some (bin v.items)) old new r → NoneAtMarker g old new r → InOrder g (items_kept k len) old new r
@@ -294,9 +272,9 @@ module _ {W : Type 0} (g : Ghosts W) where
 
   -- an element that is written, alone or after what is kept
   pub element_alone : {m : Bool} {P : Type 0} (p : Piece) (len : ℕ) {k : Option (Vec ℕ Global)} → k ≡ None → {old new : W} (r : Result (Unit {0}) Error)
-      → WritesPart g m P p.0 old new r → MarkedBy g p.1 old new r → MarkedBy g (FaultAt (spilled_items k len ++ p ∷ [])) old new r
-  element_alone p len is {old} {new} r w h = subst (λ x. MarkedBy g (FaultAt (spilled_items x len ++ p ∷ [])) old new r) (sym is)
-      (fault_at g r (one_piece g p r w h))
+      → WritesPart g m P p.0 old new r → MarkedBy g p.1 old new r → OnOk r p.2 → MarkedBy g (FaultAt (spilled_items k len ++ p ∷ [])) old new r
+  element_alone p len is {old} {new} r w h may = subst (λ x. MarkedBy g (FaultAt (spilled_items x len ++ p ∷ [])) old new r) (sym is)
+      (fault_at g r (one_piece g p r w h may))
 
   pub element_spilled : (p : Piece) (v : Vec ℕ Global) (len : ℕ) {k : Option (Vec ℕ Global)} → k ≡ Some v → {old new : W} (r : Result (Unit {0}) Error)
       → InOrder g (items_of (array_head len ∷ map number_head v.items) ++ p ∷ []) old new r

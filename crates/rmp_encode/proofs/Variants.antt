@@ -1,33 +1,5 @@
 -- What a variant is made of.
-use Rattle.std.proofs.Common.{
-  ◌≡◌,
-  ℕ,
-  ◌<◌,
-  ◌+◌,
-  nat_lt,
-  ◌^◌,
-  List,
-  [],
-  ◌∷◌,
-  ◌++◌,
-  length,
-  Bool,
-  true,
-  false,
-  Option,
-  None,
-  Some,
-  refl,
-  sym,
-  ◌∙◌,
-  ap,
-  subst,
-  arith,
-  take,
-  append_assoc,
-  append-nil,
-}
-use Rattle.std.specs.Prelude.{Result, Ok, Err}
+use Rattle.std.proofs.Common.{◌≡◌, ℕ, ◌<◌, ◌+◌, nat_lt, ◌^◌, List, [], ◌∷◌, ◌++◌, length, true, false, Option, None, Some, refl, sym, ◌∙◌, ap, subst, arith, take, append_assoc, append-nil}
 use Rattle.std.specs.List.{flat_map}
 use Rattle.std.specs.Option.{option_map}
 use Rattle.std.proofs.lemmas.Bool.Decides.{nat_tests}
@@ -37,33 +9,13 @@ use Rattle.rmp_wire.specs.Heads.{canon_head, fits_head}
 use Rattle.rmp_wire.specs.Msg as msg
 use Rattle.rmp_wire.specs.Msg.{Msg}
 use Rattle.rmp_wire.specs.Spelling.{canon, IsBytes}
-use Rattle.rmp_wire.specs.declared.sink.Sink.{Ghosts}
-use Rattle.rmp_encode.specs.declared.serializer.Serializer.{Serializer}
-use Rattle.rmp_encode.specs.declared.error.Error.{Error}
 use Rattle.rmp_encode.specs.declared.settings.Settings.{Settings}
 use Rattle.rmp_encode.specs.Data.{Data, Parts, Fields, tuple_variant, struct_variant, structure, sequence, lower, variant}
-use Rattle.rmp_encode.specs.Going.{IsMadeOf, IsWriting, head_at}
-use Rattle.rmp_encode.specs.Ser.{sink_of, settings_of}
-use Rattle.rmp_encode.specs.Writes.{Keeps, WritesTree}
-use Rattle.rmp_encode.specs.Trees.{
-  HasTree,
-  byte_of,
-  field_parts,
-  fields_of,
-  map_head,
-  parts_of,
-  sequence_of,
-  structure_of,
-  newtype_variant_of,
-  tuple_variant_of,
-  struct_variant_of,
-  spell,
-  spelling,
-  tree_of,
-  variant_head,
-}
+use Rattle.rmp_encode.specs.Going.{IsMadeOf, head_at}
+use Rattle.rmp_encode.specs.Trees.{HasTree, byte_of, field_parts, fields_of, map_head, parts_of, sequence_of, structure_of, newtype_variant_of}
+use Rattle.rmp_encode.specs.Trees.{tuple_variant_of, struct_variant_of, spell, spelling, tree_of, variant_head}
 use Rattle.rmp_encode.proofs.Fields.{made_struct}
-use Rattle.rmp_encode.proofs.Going.{made_as, goes, closes}
+use Rattle.rmp_encode.proofs.Going.{made_as}
 use Rattle.rmp_encode.proofs.Lists.{made_list}
 
 -- its content's tree, after a name
@@ -122,14 +74,6 @@ pub made_newtype : (s : Settings) (name : List ℕ) (d : Option Data) → IsByte
 made_newtype s name d b =
     subst (λ l. IsMadeOf s (tree_of s (newtype_variant_of name d)) ((length name < 2 ^ 32) × Unit {0}) l (d ∷ [])) (append-nil (variant_head name))
     (made_as (newtype_tree s name d) (made_after name b (made_one s d)))
-
--- the last part was written, or failed
-pub last_written : {W C : Type 0} (g : Ghosts W) (m : Settings → Bool) (d : Settings
-    → Option Data) (old now now' : Serializer W C) (r : Result (Unit {0}) Error) → Keeps g now now'
-    → WritesTree g (m (settings_of now)) (tree_of (settings_of now) (d (settings_of now))) (sink_of now) (sink_of now') r
-    → {t : Option Msg} → IsWriting g old t (d (settings_of old) ∷ []) now → WritesTree g (m (settings_of old)) t (sink_of old) (sink_of now') r
-last_written g m d old now now' (Ok u) k w {t} h = closes g _ old t now' u (goes g m d now now' (Ok u) k w old t [] h)
-last_written g m d old now now' (Err e) k w {t} h = goes g m d now now' (Err e) k w old t [] h
 
 pub made_tuple_variant : (s : Settings) (name : List ℕ) (n : ℕ) (ds : List (Option Data)) → IsBytes name → length ds ≡ n
     → IsMadeOf s (tree_of s (tuple_variant_of name ds)) ((length name < 2 ^ 32) × (n < 2 ^ 32)) (variant_head name ++ head_at false n) ds

@@ -9,6 +9,7 @@ use Rattle.rmp_encode.specs.declared.settings.Settings.{Settings}
 use Rattle.rmp_encode.specs.Errors.{IsReason}
 use Rattle.rmp_encode.specs.Trees.{HasTree}
 
+-- the settings of `write` and `to_vec`: structs as lists, compact forms, and no list as bytes
 abbrev pub default_settings : Settings
 default_settings = record { named = false; human = false; bytes = Normal }
 

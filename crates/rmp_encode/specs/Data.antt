@@ -8,6 +8,7 @@ use Rattle.rmp_encode.specs.declared.settings.Settings.{Settings}
 use Rattle.rmp_wire.specs.declared.config.BytesMode.{BytesMode}
 use Rattle.rmp_wire.specs.declared.config.BytesMode.TheVariants.{Normal, ForceIterables, ForceAll}
 
+-- A value, by the call that writes it.
 mutual
   pub data Data : Type 0 where
     unit : Data  -- unit and none
@@ -52,6 +53,7 @@ abbrev pub byte_in : Data → Option ℕ
 byte_in (byte n) = Some n
 byte_in d = None
 
+-- a byte before other bytes, if each is there
 abbrev pub push_byte : Option ℕ → Option (List ℕ) → Option (List ℕ)
 push_byte None o = None
 push_byte (Some b) None = None
@@ -68,12 +70,13 @@ packs_slice Normal s = false
 packs_slice ForceIterables s = nat_le 1 (length s)
 packs_slice ForceAll s = nat_le 1 (length s)
 
--- for a tuple: where bytes are no longer than the list of numbers
+-- whether the parts of a tuple that are these bytes are written as bytes, which are no longer there than a list of numbers
 unfoldable pub packs_tuple : BytesMode → List ℕ → Bool
 packs_tuple Normal s = false
 packs_tuple ForceIterables s = false
 packs_tuple ForceAll s = nat_le 1 (length s) && (nat_le 16 (length s) || list_any (nat_le 128) s)
 
+-- these bytes, or this list
 abbrev pub bin_or_list : Bool → List ℕ → Msgs → Msg
 bin_or_list true s ms = msg.bin s
 bin_or_list false s ms = msg.list ms

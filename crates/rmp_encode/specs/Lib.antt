@@ -7,6 +7,7 @@ pub mod Going
 pub mod Laws
 pub mod Markers
 pub mod Opens
+pub mod Promises
 pub mod Refusals
 pub mod Ser
 pub mod Sizes

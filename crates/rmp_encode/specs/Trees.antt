@@ -11,36 +11,20 @@ use Rattle.rmp_wire.specs.Spelling.{canon, Fits}
 use Rattle.rmp_encode.specs.declared.settings.Settings.{Settings}
 use Rattle.rmp_wire.specs.declared.config.BytesMode.{BytesMode}
 use Rattle.rmp_wire.specs.declared.config.BytesMode.TheVariants.{Normal, ForceIterables, ForceAll}
-use Rattle.rmp_encode.specs.Data.{
-  Data,
-  unit,
-  byte,
-  wrapped,
-  text,
-  sequence,
-  slice,
-  tuple,
-  mapping,
-  structure,
-  newtype_variant,
-  tuple_variant,
-  struct_variant,
-  Parts,
-  no_parts,
-  part,
-}
+use Rattle.rmp_encode.specs.Data.{Data, unit, byte, wrapped, text, sequence, slice, tuple, mapping, structure, newtype_variant, tuple_variant}
+use Rattle.rmp_encode.specs.Data.{struct_variant, Parts, no_parts, part}
 use Rattle.rmp_encode.specs.Data.{Entries, no_entries, entry, Fields, no_fields, field, byte_in, lower}
 
 -- there is a tree, and each number and length in it fits its head
 unfoldable pub HasTree : Option Msg → Type 0
 HasTree t = IsSomeAnd t Fits
 
--- its canonical spelling
+-- the canonical spelling of the tree, and no bytes where there is none
 unfoldable pub spell : Option Msg → List ℕ
 spell None = []
 spell (Some m) = canon m
 
--- the tree, if the value isn't refused
+-- the message of a value, if it isn't refused
 abbrev pub tree_of : Settings → Option Data → Option Msg
 tree_of s d = option_map (lower s) d
 
@@ -95,15 +79,17 @@ slice_of ds = option_map slice (parts_of ds)
 unfoldable pub tuple_of : List (Option Data) → Option Data
 tuple_of ds = option_map tuple (parts_of ds)
 
--- the fields of a struct, each a name and a value, refused where a value is
+-- a field before other fields, refused where one of them is
 abbrev pub push_field : List ℕ → Option Data → Option Fields → Option Fields
 push_field name None o = None
 push_field name (Some d) o = option_map (field name d) o
 
+-- the fields of a struct, each a name and a value, refused where a value is
 abbrev pub fields_of : List (List ℕ × Option Data) → Option Fields
 fields_of [] = Some no_fields
 fields_of (f ∷ fs) = push_field f.0 f.1 (fields_of fs)
 
+-- a struct of these fields
 unfoldable pub structure_of : List (List ℕ × Option Data) → Option Data
 structure_of fs = option_map structure (fields_of fs)
 

@@ -32,7 +32,7 @@ abbrev pub AtItem : Marks
 AtItem old new (InvalidValueWrite (wire.InvalidMarkerWrite fault)) = Appends old new []
 AtItem old new e = Unit {0}
 
--- a beginning of these was appended to the told bytes
+-- a beginning of these bytes was appended to those that the sink tells
 pub record AppendsPart (old new : Option (List ℕ)) (bs : List ℕ) : Type 0 where
   pub part : List ℕ
   pub rest : List ℕ

@@ -4,7 +4,7 @@ ghost use Rattle.std.specs.Prelude.{◌≡◌, ◌^◌, ◌+◌, ◌≤◌, ◌<
 ghost use Rattle.rmp_encode.specs.Compounds.{inside, reference, left_of, has_fields, is_sound, IsFilling};
 ghost use Rattle.rmp_encode.specs.Going.{Ends, Goes};
 ghost use Rattle.rmp_encode.specs.Markers.{InOrder, field_pieces, value_of};
-ghost use Rattle.rmp_encode.specs.Refusals.{OfParts};
+ghost use Rattle.rmp_encode.specs.Refusals.{OfParts, RefusesLength};
 ghost use Rattle.rmp_encode.specs.Ser.{sink_of, settings_of};
 ghost use Rattle.rmp_encode.specs.Trees.{field_parts};
 ghost use Rattle.rmp_encode.specs.Writes.{Keeps, MarkedBy};
@@ -89,6 +89,7 @@ impl<'a, W: Sink, C: SerializerConfig> Compound<'a, W, C> {
             (value_of (settings_of (inside self.old)) (T.data_of value.now (settings_of (inside self.old)).human)
             (T.marks value.now (settings_of (inside self.old))))) (sink_of (inside self.old)) (sink_of (inside self.new)) result }
         ensures error { IfErr result (OfParts (2 ^ 32 ≤ length key.now) (T.refuses value.now ∷ [])) }
+        ensures long { (settings_of (inside self.old)).named ≡ true → 2 ^ 32 ≤ length key.now → RefusesLength (inside self.old) (inside self.new) result }
         ensures writes { Goes W.Sink (IsFilling W.Sink) inside (λ s. T.takes_memory s || W.takes_memory)
             (λ s. field_parts s.named (key.now, T.data_of value.now s.human)) self.old self.new result }
         ensures keeps { Keeps W.Sink (inside self.old) (inside self.new) }

@@ -3,12 +3,12 @@
 //! The type's own `serialize` is then one call, whose contract is the type's law. An element of a type that
 //! borrows, such as `&str`, goes through a function with a type parameter for each element: the checker doesn't
 //! cover a call with several lifetimes in a type argument.
-ghost use Rattle.std.specs.Prelude.{◌≡◌, ◌^◌, ◌≤◌, ◌||◌, ℕ, Bool, List, Option, OnOk, IfErr, length, ◌∷◌, ◌++◌, false, []};
+ghost use Rattle.std.specs.Prelude.{◌≡◌, ◌^◌, ◌≤◌, ◌||◌, ℕ, Bool, List, Option, OnOk, IfErr, length, ◌∷◌, ◌++◌, true, false, []};
 ghost use Rattle.std.specs.List.{flat_map};
 ghost use Rattle.rmp_encode.specs.declared.settings.Settings.{Settings};
 ghost use Rattle.rmp_encode.specs.Data.{Data};
 ghost use Rattle.rmp_encode.specs.Going.{head_at, Goes, IsWriting};
-ghost use Rattle.rmp_encode.specs.Markers.{items_of, pieces_by, InOrder, Piece};
+ghost use Rattle.rmp_encode.specs.Markers.{items_of, pieces_by, EndsAtLong, InOrder, Piece};
 ghost use Rattle.rmp_encode.specs.Refusals.{lengths, AnyLong, Errors, OfParts, RefusesLength};
 ghost use Rattle.rmp_encode.specs.Ser.{sink_of, settings_of};
 ghost use Rattle.rmp_encode.specs.Trees.{tree_of, field_parts, fields_by, sequence_of, structure_of, tuple_variant_of, struct_variant_of, variant_items};
@@ -20,8 +20,10 @@ use rmp_wire::Sink;
 use rmp_wire::config::SerializerConfig;
 
 mod kinds;
+mod rows;
 
 pub use kinds::{Both, Eight, Five, Four, One, Seven, Six, Three};
+pub(crate) use rows::Row;
 
 /// Elements in order, of several types: `One`, `Both`, and `Three` to `Eight` implement it.
 pub trait Elements {
@@ -99,6 +101,7 @@ impl<W: Sink, C: SerializerConfig> Serializer<W, C> {
         ensures marker { InOrder W.Sink (items_of (head_at false E.count ∷ []) ++ E.pieces elements.now (settings_of self.old))
             (sink_of self.old) (sink_of self.new) result }
         ensures error { IfErr result (OfParts (AnyLong (E.count ∷ [])) (E.refusals elements.now)) }
+        ensures long { 2 ^ 32 ≤ E.count → RefusesLength self.old self.new result }
         ensures value { OnOk result (E.are_values elements.now) }
     {
         self.put_len(false, elements.len())?;
@@ -111,7 +114,7 @@ impl<W: Sink, C: SerializerConfig> Serializer<W, C> {
     /// # Errors
     ///
     /// Those of a value's type and of the sink, and `InvalidDataModel` where a name is written and has 2 ^ 32
-    /// bytes or more.
+    /// bytes or more: then what is before this name is written, and nothing of it.
     #[inline(always)]
     pub fn serialize_fields<E: Elements>(
         &mut self,
@@ -128,6 +131,9 @@ impl<W: Sink, C: SerializerConfig> Serializer<W, C> {
             ++ pieces_by (settings_of self.old).named names.now (E.pieces elements.now (settings_of self.old)))
             (sink_of self.old) (sink_of self.new) result }
         ensures error { IfErr result (OfParts (AnyLong (E.count ∷ lengths names.now)) (E.refusals elements.now)) }
+        ensures long { 2 ^ 32 ≤ E.count → RefusesLength self.old self.new result }
+        ensures long_name { (settings_of self.old).named ≡ true → EndsAtLong W.Sink (items_of (head_at true E.count ∷ [])) names.now
+            (E.pieces elements.now (settings_of self.old)) (sink_of self.old) (sink_of self.new) result }
         ensures value { OnOk result (E.are_values elements.now) }
     {
         self.put_len(self.is_named(), elements.len())?;
@@ -153,6 +159,7 @@ impl<W: Sink, C: SerializerConfig> Serializer<W, C> {
             (sink_of self.new) result }
         ensures keeps { Keeps W.Sink self.old self.new }
         ensures long { 2 ^ 32 ≤ length variant.now → RefusesLength self.old self.new result }
+        ensures long_count { 2 ^ 32 ≤ E.count → RefusesLength self.old self.new result }
         ensures marker { InOrder W.Sink (items_of (variant_items variant.now (head_at false E.count)) ++ E.pieces elements.now (settings_of self.old))
             (sink_of self.old) (sink_of self.new) result }
         ensures error { IfErr result (OfParts (AnyLong (length variant.now ∷ E.count ∷ [])) (E.refusals elements.now)) }
@@ -168,7 +175,8 @@ impl<W: Sink, C: SerializerConfig> Serializer<W, C> {
     /// # Errors
     ///
     /// `InvalidDataModel` where the variant's name has 2 ^ 32 bytes or more, and nothing is written, or where a
-    /// field's name is written and has as many; otherwise those of a value's type and of the sink.
+    /// field's name is written and has as many: then what is before this name is written, and nothing of it.
+    /// Otherwise those of a value's type and of the sink.
     #[inline(always)]
     pub fn serialize_struct_variant_of<E: Elements>(
         &mut self,
@@ -184,6 +192,9 @@ impl<W: Sink, C: SerializerConfig> Serializer<W, C> {
             (sink_of self.old) (sink_of self.new) result }
         ensures keeps { Keeps W.Sink self.old self.new }
         ensures long { 2 ^ 32 ≤ length variant.now → RefusesLength self.old self.new result }
+        ensures long_count { 2 ^ 32 ≤ E.count → RefusesLength self.old self.new result }
+        ensures long_name { (settings_of self.old).named ≡ true → EndsAtLong W.Sink (items_of (variant_items variant.now (head_at true E.count))) names.now
+            (E.pieces elements.now (settings_of self.old)) (sink_of self.old) (sink_of self.new) result }
         ensures marker { InOrder W.Sink (items_of (variant_items variant.now (head_at (settings_of self.old).named E.count))
             ++ pieces_by (settings_of self.old).named names.now (E.pieces elements.now (settings_of self.old)))
             (sink_of self.old) (sink_of self.new) result }

@@ -1,8 +1,8 @@
 //! Writes whole values, to a sink or to a vector.
-ghost use Rattle.std.specs.Prelude.{◌≡◌, ◌≢◌, ◌||◌, true, false, OnOk, IfOk, IfErr};
+ghost use Rattle.std.specs.Prelude.{◌≡◌, ◌≢◌, ◌||◌, false, OnOk, OnErr, IfOk, IfErr};
 ghost use Rattle.rmp_encode.specs.Calls.{default_settings, named_settings, IsSpelled, ToVecFails};
-ghost use Rattle.rmp_encode.specs.Trees.{tree_of, spell};
-ghost use Rattle.rmp_encode.specs.Writes.{MarkedBy, WritesTree};
+ghost use Rattle.rmp_encode.specs.Trees.{tree_of, spell, HasTree};
+ghost use Rattle.rmp_encode.specs.Writes.{AppendsPart, MarkedBy, WritesTree};
 
 use crate::error::Error;
 use crate::ser::Serialize;
@@ -35,6 +35,9 @@ const FIRST_ROOM: usize = 32;
 pub fn write<W: Sink, T: Serialize>(alloc: Global, wr: &mut W, value: &T) -> Result<(), Error>
     ensures writes { WritesTree W.Sink (T.takes_memory default_settings || W.takes_memory) (tree_of default_settings (T.data_of value.now false)) wr.old
         wr.new result }
+    // After an error the sink has what it had, and then a beginning of the encoding, where the value has one.
+    ensures prefix { OnErr result (HasTree (tree_of default_settings (T.data_of value.now false))
+        → AppendsPart (W.told wr.old) (W.told wr.new) (spell (tree_of default_settings (T.data_of value.now false)))) }
     ensures spelled { OnOk result (IsSpelled (tree_of default_settings (T.data_of value.now false))
         (spell (tree_of default_settings (T.data_of value.now false)))) }
     ensures place { W.place wr.new ≡ W.place wr.old }

@@ -1,17 +1,18 @@
 //! A serializer over a sink.
-ghost use Rattle.std.specs.Prelude.{◌≡◌, ◌^◌, ◌<◌, ◌≤◌, ◌++◌, ◌||◌, ◌∷◌, OnOk, IfErr, true, false, [], Some, pos, length, encode_utf8};
+ghost use Rattle.std.specs.Prelude.{◌≡◌, ◌^◌, ◌<◌, ◌≤◌, ◌||◌, ◌∷◌, IfErr, true, false, [], Some, pos, length, encode_utf8};
 ghost use Rattle.std.specs.Borrow.{sem};
 ghost use Rattle.rmp_wire.specs.declared.head.Head.TheVariants.{Bin};
 ghost use Rattle.rmp_wire.specs.Heads.{canon_head};
 ghost use Rattle.rmp_wire.specs.Spelling.{canon};
 ghost use Rattle.rmp_wire.specs.Msg.{nil, truth, whole, float32, float64, text, bin, extension};
 ghost use Rattle.rmp_encode.specs.Errors.{answer_of};
-ghost use Rattle.rmp_encode.specs.Going.{head_at, Begins, Goes, IsWriting};
-ghost use Rattle.rmp_encode.specs.Markers.{field_pieces, items_of, name_pieces, value_of, InOrder};
-ghost use Rattle.rmp_encode.specs.Refusals.{OfLength, OfParts, OfSink, RefusesLength};
+ghost use Rattle.rmp_encode.specs.Going.{head_at};
+ghost use Rattle.rmp_encode.specs.Markers.{field_pieces, name_pieces, value_of};
+ghost use Rattle.rmp_encode.specs.Promises.{OpensParts, WritesHead, WritesMessage, WritesParts, WritesPiece};
+ghost use Rattle.rmp_encode.specs.Refusals.{OfLength, OfSink, RefusesLength};
 ghost use Rattle.rmp_encode.specs.Ser.{sink_of, settings_of, LendsSink};
 ghost use Rattle.rmp_encode.specs.Trees.{ext_head, field_parts, name_parts, number_head};
-ghost use Rattle.rmp_encode.specs.Writes.{Keeps, NoneAtMarker, NeverMarker, WritesAfter, WritesPart, WritesTree, StaysAtRefusal};
+ghost use Rattle.rmp_encode.specs.Writes.{Keeps, NoneAtMarker, WritesTree, StaysAtRefusal};
 
 mod leaves;
 mod open;
@@ -278,10 +279,7 @@ impl<W: Sink, C: SerializerConfig> Serializer<W, C> {
     // Writes bytes that follow a head. A fault is `InvalidDataWrite`.
     #[inline(always)]
     pub(crate) fn put(&mut self, piece: &[u8]) -> Result<(), Error>
-        ensures writes { WritesAfter W.Sink piece.now (sink_of self.old) (sink_of self.new) result }
-        ensures marker { NeverMarker result }
-        ensures error { IfErr result OfSink }
-        ensures keeps { Keeps W.Sink self.old self.new }
+        ensures { WritesPiece W.Sink piece.now self.old self.new result }
     {
         match self.wr.put_all(piece) {
             Ok(()) => Ok(()),
@@ -291,20 +289,14 @@ impl<W: Sink, C: SerializerConfig> Serializer<W, C> {
 
     // Writes the numbers of a tuple after their head, each in one byte, out of line.
     pub(crate) fn put_kept(&mut self, piece: &[u8]) -> Result<(), Error>
-        ensures writes { WritesAfter W.Sink piece.now (sink_of self.old) (sink_of self.new) result }
-        ensures marker { NeverMarker result }
-        ensures error { IfErr result OfSink }
-        ensures keeps { Keeps W.Sink self.old self.new }
+        ensures { WritesPiece W.Sink piece.now self.old self.new result }
     {
         self.put(piece)
     }
 
     #[inline(always)]
     pub(crate) fn put_head(&mut self, pairs: bool, n: u32) -> Result<(), Error>
-        ensures writes { WritesPart W.Sink W.takes_memory (Unit {0}) (head_at pairs n) (sink_of self.old) (sink_of self.new) result }
-        ensures marker { NoneAtMarker W.Sink (sink_of self.old) (sink_of self.new) result }
-        ensures error { IfErr result OfSink }
-        ensures keeps { Keeps W.Sink self.old self.new }
+        ensures { WritesHead W.Sink (head_at pairs n) self.old self.new result }
     {
         if n < 16 {
             return answer(self.wr.put_all(&[short_head(pairs, n)]));
@@ -315,10 +307,7 @@ impl<W: Sink, C: SerializerConfig> Serializer<W, C> {
     // The same for sixteen elements or pairs and more, out of line.
     #[inline(never)]
     fn put_long_head(&mut self, pairs: bool, n: u32) -> Result<(), Error>
-        ensures writes { WritesPart W.Sink W.takes_memory (Unit {0}) (head_at pairs n) (sink_of self.old) (sink_of self.new) result }
-        ensures marker { NoneAtMarker W.Sink (sink_of self.old) (sink_of self.new) result }
-        ensures error { IfErr result OfSink }
-        ensures keeps { Keeps W.Sink self.old self.new }
+        ensures { WritesHead W.Sink (head_at pairs n) self.old self.new result }
     {
         if pairs {
             return answer(write_map_len(&mut self.wr, n));
@@ -330,13 +319,7 @@ impl<W: Sink, C: SerializerConfig> Serializer<W, C> {
     // 32 or more are refused, and nothing is written.
     #[inline(always)]
     pub(crate) fn put_len(&mut self, pairs: bool, len: usize) -> Result<(), Error>
-        ensures begins { Begins W.Sink (len < 2 ^ 32) (head_at pairs len) self.old self.new result }
-        ensures keeps { Keeps W.Sink self.old self.new }
-        ensures order { InOrder W.Sink (items_of (head_at pairs len ∷ [])) (sink_of self.old) (sink_of self.new) result }
-        ensures error { IfErr result (OfLength (2 ^ 32 ≤ len)) }
-        ensures stays { StaysAtRefusal self.old self.new result }
-        ensures long { 2 ^ 32 ≤ len → RefusesLength self.old self.new result }
-        ensures fits { OnOk result (len < 2 ^ 32) }
+        ensures { OpensParts W.Sink (len < 2 ^ 32) (len ∷ []) (head_at pairs len ∷ []) (head_at pairs len) self.old self.new result }
     {
         let n = fits_u32(len)?;
         self.put_head(pairs, n)
@@ -345,12 +328,7 @@ impl<W: Sink, C: SerializerConfig> Serializer<W, C> {
     // Writes a text that is likely to be short, such as a name of a type.
     #[inline(always)]
     pub(crate) fn put_word(&mut self, word: &str) -> Result<(), Error>
-        ensures writes { WritesTree W.Sink W.takes_memory (Some (text word.now)) (sink_of self.old) (sink_of self.new) result }
-        ensures marker { NoneAtMarker W.Sink (sink_of self.old) (sink_of self.new) result }
-        ensures error { IfErr result (OfLength (2 ^ 32 ≤ length word.now)) }
-        ensures keeps { Keeps W.Sink self.old self.new }
-        ensures refused { StaysAtRefusal self.old self.new result }
-        ensures long { 2 ^ 32 ≤ length word.now → RefusesLength self.old self.new result }
+        ensures { WritesMessage W.Sink (text word.now) (length word.now) self.old self.new result }
     {
         if word.len() >= 32 {
             return self.put_long_word(word);
@@ -362,10 +340,7 @@ impl<W: Sink, C: SerializerConfig> Serializer<W, C> {
     #[inline(always)]
     fn put_short_word(&mut self, word: &str) -> Result<(), Error>
         requires { length word.now < 32 }
-        ensures writes { WritesPart W.Sink W.takes_memory (Unit {0}) (canon (text word.now)) (sink_of self.old) (sink_of self.new) result }
-        ensures marker { NoneAtMarker W.Sink (sink_of self.old) (sink_of self.new) result }
-        ensures error { IfErr result OfSink }
-        ensures keeps { Keeps W.Sink self.old self.new }
+        ensures { WritesHead W.Sink (canon (text word.now)) self.old self.new result }
     {
         let bytes = word.as_bytes();
         let end = 1 + bytes.len();
@@ -378,12 +353,7 @@ impl<W: Sink, C: SerializerConfig> Serializer<W, C> {
     // Writes a text of any length, out of line.
     #[inline(never)]
     fn put_long_word(&mut self, word: &str) -> Result<(), Error>
-        ensures writes { WritesTree W.Sink W.takes_memory (Some (text word.now)) (sink_of self.old) (sink_of self.new) result }
-        ensures marker { NoneAtMarker W.Sink (sink_of self.old) (sink_of self.new) result }
-        ensures error { IfErr result (OfLength (2 ^ 32 ≤ length word.now)) }
-        ensures keeps { Keeps W.Sink self.old self.new }
-        ensures refused { StaysAtRefusal self.old self.new result }
-        ensures long { 2 ^ 32 ≤ length word.now → RefusesLength self.old self.new result }
+        ensures { WritesMessage W.Sink (text word.now) (length word.now) self.old self.new result }
     {
         self.serialize_str(word)
     }
@@ -391,10 +361,9 @@ impl<W: Sink, C: SerializerConfig> Serializer<W, C> {
     // Writes the name of a field, where structs are written with names.
     #[inline(always)]
     fn put_name(&mut self, key: &str) -> Result<(), Error>
-        ensures writes { Goes W.Sink (IsWriting W.Sink) (λ se. se) (λ _. W.takes_memory) (λ s. name_parts s.named key.now) self.old self.new result }
-        ensures order { InOrder W.Sink (name_pieces (settings_of self.old).named key.now) (sink_of self.old) (sink_of self.new) result }
-        ensures keeps { Keeps W.Sink self.old self.new }
-        ensures error { IfErr result (OfLength (2 ^ 32 ≤ length key.now)) }
+        ensures parts { WritesParts W.Sink (λ _. W.takes_memory) (λ s. name_parts s.named key.now) (λ s. name_pieces s.named key.now)
+            (2 ^ 32 ≤ length key.now) [] (Unit {0}) self.old self.new result }
+        ensures long { (settings_of self.old).named ≡ true → 2 ^ 32 ≤ length key.now → RefusesLength self.old self.new result }
     {
         if !self.is_named() {
             return Ok(());
@@ -405,13 +374,10 @@ impl<W: Sink, C: SerializerConfig> Serializer<W, C> {
     // Writes a field: its value, and with names its name before it.
     #[inline(always)]
     pub(crate) fn put_field<T: Serialize>(&mut self, key: &str, value: &T) -> Result<(), Error>
-        ensures writes { Goes W.Sink (IsWriting W.Sink) (λ se. se) (λ s. T.takes_memory s || W.takes_memory)
-            (λ s. field_parts s.named (key.now, T.data_of value.now s.human)) self.old self.new result }
-        ensures order { InOrder W.Sink (field_pieces (settings_of self.old).named key.now (value_of (settings_of self.old)
-            (T.data_of value.now (settings_of self.old).human) (T.marks value.now (settings_of self.old)))) (sink_of self.old) (sink_of self.new) result }
-        ensures keeps { Keeps W.Sink self.old self.new }
-        ensures error { IfErr result (OfParts (2 ^ 32 ≤ length key.now) (T.refuses value.now ∷ [])) }
-        ensures value { OnOk result (T.is_value value.now) }
+        ensures parts { WritesParts W.Sink (λ s. T.takes_memory s || W.takes_memory) (λ s. field_parts s.named (key.now, T.data_of value.now s.human))
+            (λ s. field_pieces s.named key.now (value_of s (T.data_of value.now s.human) (T.marks value.now s))) (2 ^ 32 ≤ length key.now)
+            (T.refuses value.now ∷ []) (T.is_value value.now) self.old self.new result }
+        ensures long { (settings_of self.old).named ≡ true → 2 ^ 32 ≤ length key.now → RefusesLength self.old self.new result }
     {
         self.put_name(key)?;
         value.serialize(self)
@@ -420,9 +386,7 @@ impl<W: Sink, C: SerializerConfig> Serializer<W, C> {
     // Writes a byte as a number.
     #[inline(always)]
     pub(crate) fn put_byte(&mut self, n: u8) -> Result<(), Error>
-        ensures writes { WritesPart W.Sink W.takes_memory (Unit {0}) (number_head n) (sink_of self.old) (sink_of self.new) result }
-        ensures marker { NoneAtMarker W.Sink (sink_of self.old) (sink_of self.new) result }
-        ensures keeps { Keeps W.Sink self.old self.new }
+        ensures { WritesHead W.Sink (number_head n) self.old self.new result }
     {
         answer(write_uint(&mut self.wr, u64::from(n)))
     }
@@ -668,9 +632,7 @@ impl<W: Sink, C: SerializerConfig> Serializer<W, C> {
 
     #[inline(always)]
     fn put_ext_head(&mut self, len: u32, tag: i8) -> Result<(), Error>
-        ensures writes { WritesPart W.Sink W.takes_memory (Unit {0}) (ext_head len tag) (sink_of self.old) (sink_of self.new) result }
-        ensures marker { NoneAtMarker W.Sink (sink_of self.old) (sink_of self.new) result }
-        ensures keeps { Keeps W.Sink self.old self.new }
+        ensures { WritesHead W.Sink (ext_head len tag) self.old self.new result }
     {
         answer(write_ext_meta(&mut self.wr, len, tag))
     }
@@ -678,8 +640,7 @@ impl<W: Sink, C: SerializerConfig> Serializer<W, C> {
     // Writes the head of `len` bytes.
     #[inline(always)]
     pub(crate) fn put_bin_head(&mut self, len: u32) -> Result<(), Error>
-        ensures writes { WritesPart W.Sink W.takes_memory (Unit {0}) (canon_head (Bin len)) (sink_of self.old) (sink_of self.new) result }
-        ensures keeps { Keeps W.Sink self.old self.new }
+        ensures { WritesHead W.Sink (canon_head (Bin len)) self.old self.new result }
     {
         answer(write_bin_len(&mut self.wr, len))
     }

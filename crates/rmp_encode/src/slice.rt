@@ -1,11 +1,11 @@
 //! The items of a slice or a `Vec`, which may be written as bytes, depending on the mode.
-ghost use Rattle.std.specs.Prelude.{◌≡◌, ◌^◌, ◌≤◌, ◌||◌, map, take, All, Some, true, false, OnOk, IfErr, length};
+ghost use Rattle.std.specs.Prelude.{◌≡◌, ◌^◌, ◌≤◌, ◌||◌, map, take, All, Some, true, false, length};
 ghost use Rattle.rmp_wire.specs.Msg.{bin};
-ghost use Rattle.rmp_encode.specs.Refusals.{OfItems, OfLength, RefusesLength};
-ghost use Rattle.rmp_encode.specs.Ser.{sink_of, settings_of};
+ghost use Rattle.rmp_encode.specs.Promises.{WritesValue};
+ghost use Rattle.rmp_encode.specs.Refusals.{OfItems, OfLength};
+ghost use Rattle.rmp_encode.specs.Ser.{settings_of};
 ghost use Rattle.rmp_encode.specs.Slices.{number_of, OneIsNone, AllBytes};
 ghost use Rattle.rmp_encode.specs.Trees.{tree_of, sequence_of, slice_of, forces_slices};
-ghost use Rattle.rmp_encode.specs.Writes.{Keeps, WritesTree};
 
 use crate::error::Error;
 use crate::length::fits_u32;
@@ -78,11 +78,8 @@ impl<W: Sink, C: SerializerConfig> Serializer<W, C> {
     // Writes values that are all `u8` as bytes.
     pub(crate) fn put_packed<T: Serialize>(&mut self, values: &[T]) -> Result<(), Error>
         requires { AllBytes (map (λ x. T.data_of x (settings_of self.old).human) values.now) }
-        ensures writes { WritesTree W.Sink W.takes_memory (Some (bin (map number_of (map (λ x. T.data_of x (settings_of self.old).human) values.now))))
-            (sink_of self.old) (sink_of self.new) result }
-        ensures keeps { Keeps W.Sink self.old self.new }
-        ensures long { 2 ^ 32 ≤ length values.now → RefusesLength self.old self.new result }
-        ensures error { IfErr result (OfLength (2 ^ 32 ≤ length values.now)) }
+        ensures { WritesValue W.Sink W.takes_memory (Some (bin (map number_of (map (λ x. T.data_of x (settings_of self.old).human) values.now))))
+            (length values.now) (OfLength (2 ^ 32 ≤ length values.now)) (Unit {0}) self.old self.new result }
     {
         if values.len() <= SHORT {
             return self.put_short(values);
@@ -93,11 +90,8 @@ impl<W: Sink, C: SerializerConfig> Serializer<W, C> {
     // Writes values that are all `u8` as bytes, a value at a time.
     fn put_short<T: Serialize>(&mut self, values: &[T]) -> Result<(), Error>
         requires { AllBytes (map (λ x. T.data_of x (settings_of self.old).human) values.now) }
-        ensures writes { WritesTree W.Sink W.takes_memory (Some (bin (map number_of (map (λ x. T.data_of x (settings_of self.old).human) values.now))))
-            (sink_of self.old) (sink_of self.new) result }
-        ensures keeps { Keeps W.Sink self.old self.new }
-        ensures long { 2 ^ 32 ≤ length values.now → RefusesLength self.old self.new result }
-        ensures error { IfErr result (OfLength (2 ^ 32 ≤ length values.now)) }
+        ensures { WritesValue W.Sink W.takes_memory (Some (bin (map number_of (map (λ x. T.data_of x (settings_of self.old).human) values.now))))
+            (length values.now) (OfLength (2 ^ 32 ≤ length values.now)) (Unit {0}) self.old self.new result }
     {
         let human = self.is_human_readable();
         let len = fits_u32(values.len())?;
@@ -112,11 +106,8 @@ impl<W: Sink, C: SerializerConfig> Serializer<W, C> {
     // Writes values that are all `u8` as bytes, a piece at a time.
     fn put_pieces<T: Serialize>(&mut self, values: &[T]) -> Result<(), Error>
         requires { AllBytes (map (λ x. T.data_of x (settings_of self.old).human) values.now) }
-        ensures writes { WritesTree W.Sink W.takes_memory (Some (bin (map number_of (map (λ x. T.data_of x (settings_of self.old).human) values.now))))
-            (sink_of self.old) (sink_of self.new) result }
-        ensures keeps { Keeps W.Sink self.old self.new }
-        ensures long { 2 ^ 32 ≤ length values.now → RefusesLength self.old self.new result }
-        ensures error { IfErr result (OfLength (2 ^ 32 ≤ length values.now)) }
+        ensures { WritesValue W.Sink W.takes_memory (Some (bin (map number_of (map (λ x. T.data_of x (settings_of self.old).human) values.now))))
+            (length values.now) (OfLength (2 ^ 32 ≤ length values.now)) (Unit {0}) self.old self.new result }
     {
         let human = self.is_human_readable();
         let len = fits_u32(values.len())?;
@@ -131,13 +122,9 @@ impl<W: Sink, C: SerializerConfig> Serializer<W, C> {
 
     // Writes a list of values, never as bytes. 2 ^ 32 values or more are refused, and nothing is written.
     pub(crate) fn put_list<T: Serialize>(&mut self, values: &[T]) -> Result<(), Error>
-        ensures writes { WritesTree W.Sink (T.takes_memory (settings_of self.old) || W.takes_memory)
-            (tree_of (settings_of self.old) (sequence_of (map (λ x. T.data_of x (settings_of self.old).human) values.now))) (sink_of self.old)
-            (sink_of self.new) result }
-        ensures keeps { Keeps W.Sink self.old self.new }
-        ensures long { 2 ^ 32 ≤ length values.now → RefusesLength self.old self.new result }
-        ensures error { IfErr result (OfItems T.refuses values.now) }
-        ensures value { OnOk result (All T.is_value values.now) }
+        ensures { WritesValue W.Sink (T.takes_memory (settings_of self.old) || W.takes_memory)
+            (tree_of (settings_of self.old) (sequence_of (map (λ x. T.data_of x (settings_of self.old).human) values.now))) (length values.now)
+            (OfItems T.refuses values.now) (All T.is_value values.now) self.old self.new result }
     {
         self.put_len(false, values.len())?;
         for value in values {

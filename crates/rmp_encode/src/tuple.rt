@@ -1,19 +1,20 @@
 //! Tuples, whose elements may be written as bytes, depending on the mode.
-ghost use Rattle.std.specs.Prelude.{◌≡◌, ◌^◌, ◌≤◌, ◌+◌, ◌<◌, ◌||◌, ◌∷◌, ◌++◌, [], nat_le, map, All, Some, true, false, OnOk, OnErr, IfErr, length};
+ghost use Rattle.std.specs.Prelude.{◌≡◌, ◌^◌, ◌+◌, ◌<◌, ◌||◌, ◌∷◌, ◌++◌, [], nat_le, map, All, Some, true, false, OnOk, OnErr, IfErr, length};
 ghost use Rattle.std.specs.List.{list_any, flat_map};
 ghost use Rattle.rmp_wire.specs.Msg.{bin};
 ghost use Rattle.rmp_wire.specs.declared.config.BytesMode.TheVariants.{ForceAll};
 ghost use Rattle.rmp_encode.specs.Data.{packs_tuple};
-ghost use Rattle.rmp_encode.specs.Markers.{items_of, value_of, FaultAt, InOrder};
+ghost use Rattle.rmp_encode.specs.Markers.{value_of, FaultAt, InOrder};
 ghost use Rattle.rmp_encode.specs.Going.{Ends, EndsBySink, Goes};
-ghost use Rattle.rmp_encode.specs.Refusals.{OfItems, OfParts, RefusesLength};
+ghost use Rattle.rmp_encode.specs.Promises.{WritesItems, WritesValue};
+ghost use Rattle.rmp_encode.specs.Refusals.{OfItems, OfParts};
 ghost use Rattle.rmp_encode.specs.Ser.{sink_of, settings_of};
-ghost use Rattle.rmp_encode.specs.Sizes.{one_of};
 ghost use Rattle.rmp_encode.specs.Slices.{number_of, AllBytes};
 ghost use Rattle.rmp_encode.specs.Trees.{tree_of, sequence_of, tuple_of, forces_all, number_head};
 ghost use Rattle.rmp_encode.specs.Tuples.{inside, reference, items_before, items_left, left_of, is_sound, IsTupling};
-ghost use Rattle.rmp_encode.specs.Writes.{Keeps, MarkedBy, WritesPart, WritesTree};
+ghost use Rattle.rmp_encode.specs.Writes.{Keeps, MarkedBy};
 
+use crate::elements::Row;
 use crate::error::Error;
 use crate::ser::Serialize;
 use crate::serializer::Serializer;
@@ -84,9 +85,7 @@ fn packs<T: Serialize>(values: &[T], human: bool) -> bool
 impl<W: Sink, C: SerializerConfig> Serializer<W, C> {
     // Writes each byte as a number.
     pub(crate) fn put_numbers(&mut self, bytes: &[u8]) -> Result<(), Error>
-        ensures writes { WritesPart W.Sink W.takes_memory (Unit {0}) (flat_map number_head bytes.now) (sink_of self.old) (sink_of self.new) result }
-        ensures order { InOrder W.Sink (items_of (map number_head bytes.now)) (sink_of self.old) (sink_of self.new) result }
-        ensures keeps { Keeps W.Sink self.old self.new }
+        ensures { WritesItems W.Sink (map number_head bytes.now) (flat_map number_head bytes.now) self.old self.new result }
     {
         for b in bytes {
             self.put_byte(*b)?;
@@ -153,74 +152,6 @@ impl<'a, W: Sink, C: SerializerConfig> Tuple<'a, W, C> {
                 Err(e)
             }
         }
-    }
-
-    // Writes the next two elements.
-    #[inline(always)]
-    pub(crate) fn two<A: Serialize, B: Serialize>(&mut self, a: &A, b: &B) -> Result<(), Error>
-        requires sound { is_sound self.old ≡ true }
-        requires room { 1 < left_of self.old }
-        ensures same_reference { reference self.new ≡ reference self.old }
-        ensures left { OnOk result (left_of self.new + 2 ≡ left_of self.old) }
-        ensures sound { OnOk result (is_sound self.new ≡ true) }
-        ensures error { IfErr result (OfParts ⊥ (A.refuses a.now ∷ (B.refuses b.now ∷ []))) }
-        ensures writes { Goes W.Sink (IsTupling W.Sink) inside
-            (λ s. (forces_all s.bytes || one_of (A.takes_memory s ∷ (B.takes_memory s ∷ []))) || W.takes_memory)
-            (λ s. A.data_of a.now s.human ∷ B.data_of b.now s.human ∷ []) self.old self.new result }
-        ensures keeps { Keeps W.Sink (inside self.old) (inside self.new) }
-        ensures value { OnOk result (A.is_value a.now × B.is_value b.now) }
-    {
-        self.serialize_element(a)?;
-        self.serialize_element(b)
-    }
-
-    // Writes the next three elements.
-    #[inline(always)]
-    pub(crate) fn three<A: Serialize, B: Serialize, D: Serialize>(
-        &mut self,
-        a: &A,
-        b: &B,
-        d: &D,
-    ) -> Result<(), Error>
-        requires sound { is_sound self.old ≡ true }
-        requires room { 2 < left_of self.old }
-        ensures same_reference { reference self.new ≡ reference self.old }
-        ensures left { OnOk result (left_of self.new + 3 ≡ left_of self.old) }
-        ensures sound { OnOk result (is_sound self.new ≡ true) }
-        ensures error { IfErr result (OfParts ⊥ (A.refuses a.now ∷ (B.refuses b.now ∷ (D.refuses d.now ∷ [])))) }
-        ensures writes { Goes W.Sink (IsTupling W.Sink) inside
-            (λ s. (forces_all s.bytes || one_of (A.takes_memory s ∷ (B.takes_memory s ∷ (D.takes_memory s ∷ [])))) || W.takes_memory)
-            (λ s. A.data_of a.now s.human ∷ B.data_of b.now s.human ∷ D.data_of d.now s.human ∷ []) self.old self.new result }
-        ensures keeps { Keeps W.Sink (inside self.old) (inside self.new) }
-        ensures value { OnOk result (A.is_value a.now × B.is_value b.now × D.is_value d.now) }
-    {
-        self.two(a, b)?;
-        self.serialize_element(d)
-    }
-
-    // Writes the next four elements. Of four of one type, two and two would be one function, and the compiler inlines what is called once.
-    #[inline(always)]
-    pub(crate) fn four<A: Serialize, B: Serialize, D: Serialize, E: Serialize>(
-        &mut self,
-        a: &A,
-        b: &B,
-        d: &D,
-        e: &E,
-    ) -> Result<(), Error>
-        requires sound { is_sound self.old ≡ true }
-        requires room { 3 < left_of self.old }
-        ensures same_reference { reference self.new ≡ reference self.old }
-        ensures left { OnOk result (left_of self.new + 4 ≡ left_of self.old) }
-        ensures sound { OnOk result (is_sound self.new ≡ true) }
-        ensures error { IfErr result (OfParts ⊥ (A.refuses a.now ∷ (B.refuses b.now ∷ (D.refuses d.now ∷ (E.refuses e.now ∷ []))))) }
-        ensures writes { Goes W.Sink (IsTupling W.Sink) inside
-            (λ s. (forces_all s.bytes || one_of (A.takes_memory s ∷ (B.takes_memory s ∷ (D.takes_memory s ∷ (E.takes_memory s ∷ []))))) || W.takes_memory)
-            (λ s. A.data_of a.now s.human ∷ B.data_of b.now s.human ∷ D.data_of d.now s.human ∷ E.data_of e.now s.human ∷ []) self.old self.new result }
-        ensures keeps { Keeps W.Sink (inside self.old) (inside self.new) }
-        ensures value { OnOk result (A.is_value a.now × B.is_value b.now × D.is_value d.now × E.is_value e.now) }
-    {
-        self.three(a, b, d)?;
-        self.serialize_element(e)
     }
 
     // Writes the next element, or keeps it, without marking the tuple after an error.
@@ -322,15 +253,30 @@ pub(crate) fn put_tuple<W: Sink, C: SerializerConfig, T: Serialize>(
     se: &mut Serializer<W, C>,
     values: &[T],
 ) -> Result<(), Error>
-    ensures writes { WritesTree W.Sink ((forces_all (settings_of se.old).bytes || T.takes_memory (settings_of se.old)) || W.takes_memory)
-        (tree_of (settings_of se.old) (tuple_of (map (λ x. T.data_of x (settings_of se.old).human) values.now))) (sink_of se.old) (sink_of se.new) result }
-    ensures keeps { Keeps W.Sink se.old se.new }
-    ensures long { 2 ^ 32 ≤ length values.now → RefusesLength se.old se.new result }
-    ensures error { IfErr result (OfItems T.refuses values.now) }
-    ensures value { OnOk result (All T.is_value values.now) }
+    ensures { WritesValue W.Sink ((forces_all (settings_of se.old).bytes || T.takes_memory (settings_of se.old)) || W.takes_memory)
+        (tree_of (settings_of se.old) (tuple_of (map (λ x. T.data_of x (settings_of se.old).human) values.now))) (length values.now)
+        (OfItems T.refuses values.now) (All T.is_value values.now) se.old se.new result }
 {
     if se.packs_tuple(values) {
         return se.put_packed(values);
     }
     se.put_list(values)
+}
+
+// Writes a tuple of these elements, of which there are `len`.
+#[inline(always)]
+pub(crate) fn put_row<W: Sink, C: SerializerConfig, R: Row>(
+    se: &mut Serializer<W, C>,
+    len: usize,
+    row: &R,
+) -> Result<(), Error>
+    requires whole { len ≡ R.count }
+    requires small { len < 2 ^ 32 }
+    ensures { WritesValue W.Sink ((forces_all (settings_of se.old).bytes || R.takes_memory (settings_of se.old)) || W.takes_memory)
+        (tree_of (settings_of se.old) (tuple_of (R.parts_of row.now (settings_of se.old).human))) len (OfParts ⊥ (R.refusals row.now))
+        (R.are_values row.now) se.old se.new result }
+{
+    let mut tup = se.serialize_tuple(len)?;
+    row.add_to(&mut tup)?;
+    tup.end()
 }

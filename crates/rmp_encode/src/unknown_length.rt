@@ -1,7 +1,7 @@
 //! Lists and maps, of a known length, or of an unknown one, whose elements are buffered until the end.
 ghost use Rattle.std.specs.Prelude.{◌≡◌, ◌+◌, ◌≤◌, ◌<◌, ◌^◌, ◌||◌, ◌∷◌, [], true, false, OnOk, OnErr, IfErr};
 ghost use Rattle.rmp_encode.specs.Going.{Ends, EndsBySink, Goes};
-ghost use Rattle.rmp_encode.specs.Refusals.{OfParts};
+ghost use Rattle.rmp_encode.specs.Refusals.{OfParts, RefusesLength};
 ghost use Rattle.rmp_encode.specs.Ser.{sink_of, settings_of};
 ghost use Rattle.rmp_encode.specs.Sizes.{most, size_at};
 ghost use Rattle.rmp_encode.specs.Writes.{Keeps, MarkedBy, NoneAtMarker};
@@ -95,6 +95,7 @@ impl<'a, W: Sink, C: SerializerConfig> MaybeUnknownLengthCompound<'a, W, C> {
         ensures marker { MarkedBy W.Sink (part_marks (left_of self.old) (T.marks value.now (settings_of (inside self.old))))
             (sink_of (inside self.old)) (sink_of (inside self.new)) result }
         ensures error { IfErr result (OfParts (IsFull self.old) (T.refuses value.now ∷ [])) }
+        ensures long { IsFull self.old → RefusesLength (inside self.old) (inside self.new) result }
         ensures writes { Goes W.Sink (IsOpen W.Sink) inside (λ s. is_kept (left_of self.old) || (T.takes_memory s || W.takes_memory))
             (λ s. T.data_of value.now s.human ∷ []) self.old self.new result }
         ensures stays { Stays (left_of self.old) (inside self.old) (inside self.new) }
@@ -156,6 +157,7 @@ impl<'a, W: Sink, C: SerializerConfig> MaybeUnknownLengthCompound<'a, W, C> {
         ensures marker { MarkedBy W.Sink (part_marks (left_of self.old) (T.marks value.now (settings_of (inside self.old))))
             (sink_of (inside self.old)) (sink_of (inside self.new)) result }
         ensures error { IfErr result (OfParts (IsFull self.old) (T.refuses value.now ∷ [])) }
+        ensures long { IsFull self.old → RefusesLength (inside self.old) (inside self.new) result }
         ensures writes { Goes W.Sink (IsOpen W.Sink) inside (λ s. is_kept (left_of self.old) || (T.takes_memory s || W.takes_memory))
             (λ s. T.data_of value.now s.human ∷ []) self.old self.new result }
         ensures stays { Stays (left_of self.old) (inside self.old) (inside self.new) }
@@ -185,6 +187,7 @@ impl<'a, W: Sink, C: SerializerConfig> MaybeUnknownLengthCompound<'a, W, C> {
         ensures marker { MarkedBy W.Sink (part_marks (left_of self.old) (T.marks key.now (settings_of (inside self.old))))
             (sink_of (inside self.old)) (sink_of (inside self.new)) result }
         ensures error { IfErr result (OfParts (IsFull self.old) (T.refuses key.now ∷ [])) }
+        ensures long { IsFull self.old → RefusesLength (inside self.old) (inside self.new) result }
         ensures writes { Goes W.Sink (IsOpen W.Sink) inside (λ s. is_kept (left_of self.old) || (T.takes_memory s || W.takes_memory))
             (λ s. T.data_of key.now s.human ∷ []) self.old self.new result }
         ensures stays { Stays (left_of self.old) (inside self.old) (inside self.new) }
@@ -213,6 +216,7 @@ impl<'a, W: Sink, C: SerializerConfig> MaybeUnknownLengthCompound<'a, W, C> {
         ensures marker { MarkedBy W.Sink (part_marks (left_of self.old) (T.marks value.now (settings_of (inside self.old))))
             (sink_of (inside self.old)) (sink_of (inside self.new)) result }
         ensures error { IfErr result (OfParts (IsFull self.old) (T.refuses value.now ∷ [])) }
+        ensures long { IsFull self.old → RefusesLength (inside self.old) (inside self.new) result }
         ensures writes { Goes W.Sink (IsOpen W.Sink) inside (λ s. is_kept (left_of self.old) || (T.takes_memory s || W.takes_memory))
             (λ s. T.data_of value.now s.human ∷ []) self.old self.new result }
         ensures stays { Stays (left_of self.old) (inside self.old) (inside self.new) }

@@ -58,18 +58,18 @@ wrong_inside strict room errors.NotCanonical xs own end w = absurd (neither end)
 abbrev pub WrongInside : (ℕ → Error → List ℕ → Type 0) → Type 0
 WrongInside wrong = (room : ℕ) (e : Error) (xs : List ℕ) → IsBytes xs → IsEnd e → wrong room e xs → IsBeginning xs
 
-unpassed_inside : (lends strict : Bool) → WrongInside (UnpassedFor lends strict)
-unpassed_inside lends strict room (errors.InvalidMarkerRead f) xs own end w = wrong_inside strict room (errors.InvalidMarkerRead f) xs own end w
-unpassed_inside lends strict room (errors.InvalidDataRead f) xs own end w = wrong_inside strict room (errors.InvalidDataRead f) xs own end w
-unpassed_inside lends strict room (errors.TypeMismatch m) xs own end w = absurd (neither end)
-unpassed_inside lends strict room errors.OutOfRange xs own end w = absurd (neither end)
-unpassed_inside lends strict room (errors.LengthMismatch n) xs own end w = absurd (neither end)
-unpassed_inside lends strict room (errors.Uncategorized n) xs own end w = absurd (neither end)
-unpassed_inside lends strict room (errors.Syntax n) xs own end w = absurd (neither end)
-unpassed_inside lends strict room (errors.Utf8Error n) xs own end w = absurd (neither end)
-unpassed_inside lends strict room errors.DepthLimitExceeded xs own end w = absurd (neither end)
-unpassed_inside lends strict room errors.OutOfMemory xs own end w = absurd (neither end)
-unpassed_inside lends strict room errors.NotCanonical xs own end w = absurd (neither end)
+unpassed_inside : (lends : Bool) (top : ℕ) (strict : Bool) → WrongInside (UnpassedFor lends top strict)
+unpassed_inside lends top strict room (errors.InvalidMarkerRead f) xs own end w = wrong_inside strict room (errors.InvalidMarkerRead f) xs own end w
+unpassed_inside lends top strict room (errors.InvalidDataRead f) xs own end w = wrong_inside strict room (errors.InvalidDataRead f) xs own end w
+unpassed_inside lends top strict room (errors.TypeMismatch m) xs own end w = absurd (neither end)
+unpassed_inside lends top strict room errors.OutOfRange xs own end w = absurd (neither end)
+unpassed_inside lends top strict room (errors.LengthMismatch n) xs own end w = absurd (neither end)
+unpassed_inside lends top strict room (errors.Uncategorized n) xs own end w = absurd (neither end)
+unpassed_inside lends top strict room (errors.Syntax n) xs own end w = absurd (neither end)
+unpassed_inside lends top strict room (errors.Utf8Error n) xs own end w = absurd (neither end)
+unpassed_inside lends top strict room errors.DepthLimitExceeded xs own end w = absurd (neither end)
+unpassed_inside lends top strict room errors.OutOfMemory xs own end w = absurd (neither end)
+unpassed_inside lends top strict room errors.NotCanonical xs own end w = absurd (neither end)
 
 -- ---- and inside of a list or a map
 
@@ -111,4 +111,4 @@ refusal_inside strict wrong readable law (suc room) e xs own end (inside enters 
 -- of a message that is passed over
 pub passed_inside : AlwaysInside pass_refusal
 unfolding RefusedFor
-passed_inside s n xs e own r end = refusal_inside s.strict (UnpassedFor s.lends s.strict) any_row (unpassed_inside s.lends s.strict) s.room e xs own end (r.0 refl)
+passed_inside s n xs e own r end = refusal_inside s.strict (UnpassedFor s.lends s.room s.strict) any_row (unpassed_inside s.lends s.room s.strict) s.room e xs own end (r.0 refl)

@@ -55,10 +55,11 @@ number_bytes b small = head_bytes (Whole (pos b)) (canon_head (Whole (pos b))) (
 
 pub element_inside : (b : Bool) (P : Refusals) → EndsInside P → (faults : ℕ) → RowInside b (WhereSome (RefusedIn b P faults faults))
 element_inside false P inside faults n xs e own r end = unfinished_first n xs r.0 (inside faults xs e own r.1 end)
-element_inside true P inside faults n [] e own r end = r.0
-element_inside true P inside faults n (x ∷ xs) e own r end =
+element_inside true P inside faults n xs e own (some, inl fault) end = absurd (fault.0 refl)
+element_inside true P inside faults n [] e own (some, inr r) end = some
+element_inside true P inside faults n (x ∷ xs) e own (some, inr r) end =
     let more : List ℕ = canon_head (Whole (pos x)) ++ xs in
-    absurd (number_whole x xs own.0 (inside faults more e (bytes_append (canon_head (Whole (pos x))) xs (number_bytes x own.0) own.1) (r.1 refl) end))
+    absurd (number_whole x xs own.0 (inside faults more e (bytes_append (canon_head (Whole (pos x))) xs (number_bytes x own.0) own.1) r end))
 
 pub wanted_inside : (b : Bool) (P : Refusals) → EndsInside P → (faults : ℕ) → RowInside b (Wanted (RefusedIn b P faults faults))
 wanted_inside b P inside faults n xs e own (inl none) end = absurd (syntax_no_end e _ none.1 end)
@@ -158,7 +159,7 @@ kept_inside P inside n xs None e own k r end = absurd k
 kept_inside P inside n xs (Some ys) e own k r end = inside n xs e own (subst (λ z. P n n (Some z) e) k r) end
 
 pub option_inside : (refuses : Setting → Refusals) → AlwaysInside refuses → AlwaysInside (RefusesOption refuses)
-option_inside refuses law s n xs e own (inl r) end = subst IsBeginning (sym (r refl).0) nothing_begins
+option_inside refuses law s n xs e own (inl r) end = subst IsBeginning (sym (r.0 refl).0) nothing_begins
 option_inside refuses law s n xs e own (inr r) end = kept_inside (refuses s) (law s) n xs r.there e own r.same r.refused end
 
 pub box_inside : {V : Type 0} (reads : Bool → Bool → Msg → V → Type 0) (refuses : Setting → Refusals) → AlwaysInside refuses

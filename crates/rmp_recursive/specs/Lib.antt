@@ -4,3 +4,5 @@ pub mod Maps
 pub mod Rounds
 pub mod Leaves
 pub mod MapRounds
+pub mod Given
+pub mod Shapes

@@ -13,7 +13,7 @@ abbrev pub tree_named : Settings → Fields → List ℕ → Option Msg
 tree_named s no_fields n = None
 tree_named s (field k d x) n = cond (bytes_eq n k) (Some (lower s d)) (tree_named s x n)
 
--- the tree of the field of this name, of fields that may be refused
+-- the tree of the first field of this name, if there is one and it isn't refused
 abbrev pub tree_in : Settings → List (List ℕ × Option Data) → List ℕ → Option Msg
 tree_in s [] n = None
 tree_in s (f ∷ fs) n = cond (bytes_eq n f.0) (tree_of s f.1) (tree_in s fs n)

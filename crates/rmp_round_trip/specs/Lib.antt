@@ -1,3 +1,5 @@
+pub mod AlikeData
+pub mod AlikeOrder
 pub mod Evolution
 pub mod InTurn
 pub mod LeafRounds

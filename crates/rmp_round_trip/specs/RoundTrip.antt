@@ -8,7 +8,7 @@ use Rattle.rmp_decode.specs.Maps.{Collects}
 use Rattle.rmp_decode.specs.Sets.{CollectsKeys}
 use Rattle.rmp_wire.specs.Msg.{Msg}
 
--- the value isn't refused, and P holds of the tree that it lowers to
+-- the value isn't refused, and P is true of the tree that it lowers to
 abbrev pub LowersTo : Settings → Option Data → (Msg → Type 0) → Type 0
 LowersTo s d P = IsSomeAnd (tree_of s d) P
 

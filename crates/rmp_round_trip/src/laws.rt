@@ -19,7 +19,7 @@ ghost use Rattle.rmp_round_trip.specs.RoundTrip.{LowersTo, Only};
 ghost use Rattle.rmp_round_trip.specs.StructRounds.{names_in};
 
 use crate::round_trip::RoundTrip;
-pub use crate::turns::values_in_turn;
+pub use crate::turns::{messages_in_turn, values_in_turn};
 use rmp_decode::Deserialize;
 use rmp_wire::ReadSlice;
 
@@ -36,6 +36,8 @@ pub fn values_come_back<'de, R: ReadSlice<'de>, T: RoundTrip<'de, R>>()
         → LowersTo s (T.data_of v s.human) (λ m. T.reads s.human R.lends m v) }
     // and as nothing else
     ensures only { (s : Settings) (v : T) → T.is_value v → LowersTo s (T.data_of v s.human) (λ m. Only (T.reads s.human R.lends) T.same m v) }
+    // Values of the same content are written alike.
+    ensures alike { (human : Bool) (v w : T) → T.same v w → T.data_of v human ≡ T.data_of w human }
 {}
 
 /// What a value is written as is read as that value, and as nothing else, with the same settings, whatever follows it, where it nests
@@ -54,6 +56,10 @@ pub fn written_is_read<'de, R: ReadSlice<'de>, T: RoundTrip<'de, R>>()
     // Whatever a read answers has the content of what was written, and is all that is consumed.
     ensures same { (s : Settings) (v w : T) (b x : List ℕ) → T.is_value v → IsSpelled (tree_of s (T.data_of v s.human)) b
         → (c y : List ℕ) (m : Msg) → Spells c m → b ++ x ≡ c ++ y → T.reads s.human R.lends m w → T.same v w × (y ≡ x) }
+    // So it is written alike, whatever the settings.
+    ensures equal { (s : Settings) (v w : T) (b x : List ℕ) → T.is_value v → IsSpelled (tree_of s (T.data_of v s.human)) b
+        → (c y : List ℕ) (m : Msg) → Spells c m → b ++ x ≡ c ++ y → T.reads s.human R.lends m w → (human : Bool)
+        → T.data_of v human ≡ T.data_of w human }
 {
     values_come_back::<R, T>();
 }

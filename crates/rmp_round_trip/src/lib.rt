@@ -5,4 +5,4 @@ pub mod laws;
 mod round_trip;
 mod turns;
 
-pub use round_trip::{NeverNil, RoundTrip};
+pub use round_trip::{ContentOrd, NeverNil, RoundTrip};

@@ -1,5 +1,6 @@
 //! Types whose values are read as they were written.
 ghost use Rattle.std.specs.Prelude.{◌≡◌, ◌≢◌, Bool, true, false, Option, Some, IsSome};
+ghost use Rattle.std.specs.declared.cmp.Ordering.TheVariants.{Equal};
 ghost use Rattle.rmp_encode.specs.Trees.{tree_of};
 ghost use Rattle.rmp_encode.specs.declared.settings.Settings.{Settings};
 ghost use Rattle.rmp_round_trip.specs.RoundTrip.{LowersTo, Only};
@@ -34,6 +35,9 @@ pub trait RoundTrip<'de, R: ReadSlice<'de>>: Serialize + Deserialize<'de, R> {
     // Whether two values have the same content: what `PartialEq` would compare. Capacity and allocator are no part of it.
     ghost same: { Self → Self → Type 0 };
 
+    // Values of the same content are written alike.
+    ghost alike: { (human : Bool) (v w : Self) → same v w → Self.data_of v human ≡ Self.data_of w human };
+
     // Nothing else is read there: with names or without, and in each mode, whatever is read of what a value lowers to has its content.
     ghost only: { (s : Settings) (v : Self) → Self.is_value v
         → LowersTo s (Self.data_of v s.human) (λ m. Only (Self.reads s.human R.lends) same m v) };
@@ -44,4 +48,11 @@ pub trait RoundTrip<'de, R: ReadSlice<'de>>: Serialize + Deserialize<'de, R> {
 /// It has no calls. Contracts of generic code use its law.
 pub trait NeverNil: Serialize {
     ghost never_nil: { (s : Settings) (v : Self) → tree_of s (Self.data_of v s.human) ≢ Some nil };
+}
+
+/// A type in whose order values of the same content are equal, as the keys of sets and maps have to be.
+///
+/// It has no calls. Contracts of generic code use its law.
+pub trait ContentOrd<'de, R: ReadSlice<'de>>: RoundTrip<'de, R> + Ord {
+    ghost equal: { (v w : Self) → Self.same v w → Self.cmp v w ≡ Equal };
 }

@@ -23,7 +23,7 @@ pub record MessageEnds (input : List ℕ) (n : ℕ) : Type 0 where
   pub spelled : IsMessage bytes
   pub long : n ≡ length bytes
 
--- with some bytes more, at least one, they spell a message
+-- these bytes and some more, at least one, spell a message
 pub record IsBeginning (input : List ℕ) : Type 0 where
   pub rest : List ℕ
   pub some : rest ≢ []
@@ -47,6 +47,7 @@ pub record IsLonger (limit : ℕ) (input : List ℕ) : Type 0 where
   pub ends : (n : ℕ) → MessageEnds input n → limit < n
   pub begins : (rest : List ℕ) → IsMessage (input ++ rest) → limit < length (input ++ rest)
 
+-- the greatest length of a message that the scanner accepts
 abbrev pub limit_of : Scanner → ℕ
 limit_of s = s.limit
 
@@ -91,6 +92,11 @@ pub record IsTooLong (before piece : List ℕ) (limit : ℕ) (new : Scanner) : T
   pub longer : IsLonger limit (before ++ piece)
   pub many : limit ≤ 2 ^ 34 * length (before ++ piece) + 1
   pub refused : is_refused new
+
+-- After the end of a message the scanner has no bytes. Where it goes on, it has the piece too, and a message begins with them.
+abbrev pub Follows : List ℕ → List ℕ → Scanner → Scan → Type 0
+Follows before piece new (Whole used) = IsAfter [] new
+Follows before piece new More = IsAfter (before ++ piece) new × IsBeginning (before ++ piece)
 
 -- what a scanner answers that has the bytes before the piece
 abbrev pub Scans : List ℕ → List ℕ → ℕ → Scanner → Result Scan Error → Type 0

@@ -1,5 +1,5 @@
 //! Finds where a message ends that arrives in pieces.
-ghost use Rattle.std.specs.Prelude.{◌≡◌, ◌↔◌, ◌⊎◌, ℕ, List, ◌+◌, ◌^◌, ◌≤◌, ◌++◌, [], false, true, length, Ok, Err, Some, None, IfErr, IfSome};
+ghost use Rattle.std.specs.Prelude.{◌≡◌, ◌↔◌, ◌⊎◌, ℕ, List, ◌+◌, ◌^◌, ◌≤◌, ◌++◌, [], false, true, length, Ok, Err, Some, None, IfOk, IfErr, IfSome};
 ghost use Rattle.rmp_decode.specs.declared.text.Text.TheVariants.{InvalidLength, FailedBefore};
 ghost use Rattle.rmp_wire.specs.declared.marker.Marker.TheVariants as marker;
 ghost use Rattle.rmp_scan.specs.Completes.{is_whole};
@@ -39,7 +39,7 @@ pub struct Scanner {
 }
 
 impl Scanner {
-    ghost use Rattle.rmp_scan.specs.Scans.{IsAfter, IsBeginning, MessageEnds, Scans, is_refused, limit_of, reserved_of};
+    ghost use Rattle.rmp_scan.specs.Scans.{Follows, IsAfter, IsBeginning, MessageEnds, Scans, is_refused, limit_of, reserved_of};
     ghost use Rattle.rmp_scan.specs.States.{IsStateOf, IsBroken, IsOutOfRange};
 
     /// Makes a scanner that waits for the first byte of a message.
@@ -93,6 +93,8 @@ impl Scanner {
         // and `More` where the bytes are the beginning of one, unless all such messages are too long.
         ensures more { (before : List ℕ) → IsAfter before self.old → IsBeginning (before ++ piece.now)
             → (result ≡ Ok Scan.More) ⊎ (result ≡ Err (Error.Syntax InvalidLength)) }
+        // Which bytes it has then.
+        ensures after { (before : List ℕ) → IsAfter before self.old → IfOk result (Follows before piece.now self.new) }
         ensures limit { limit_of self.new ≡ limit_of self.old }
         ensures reserved { (result ≡ Err (Error.TypeMismatch marker.Reserved)) ⊎ (reserved_of self.new ≡ reserved_of self.old) }
         ensures refused { is_refused self.old → (result ≡ Err (Error.Uncategorized FailedBefore)) × (self.new ≡ self.old) }

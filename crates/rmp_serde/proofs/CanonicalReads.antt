@@ -1,5 +1,5 @@
 -- What is read from the very bytes that are written of it.
-use Rattle.std.proofs.Common.{◌≡◌, ◌≢◌, ◌∙◌, true, sym, ap, subst, ℕ, List, [], Option, Result, Ok, Err, MatchResult}
+use Rattle.std.proofs.Common.{◌≡◌, ◌≢◌, ◌∙◌, true, sym, ap, subst, ℕ, suc, List, [], Option, Result, Ok, Err, MatchResult}
 use Rattle.std.specs.Prelude.{◌<◌, IfErr, IfOk, IsSomeAnd}
 use Rattle.std.proofs.lemmas.List.{append-nil}
 use Rattle.rmp_decode.specs.Law.{Begins, Readable}
@@ -13,6 +13,7 @@ use Rattle.rmp_wire.specs.Canonical.{IsCanonical}
 use Rattle.rmp_wire.specs.Msg.{Msg, depth}
 use Rattle.rmp_wire.specs.Spelling.{canon, Fits}
 use Rattle.rmp_wire.proofs.Strict.{spells_any}
+use Rattle.rmp_serde.specs.Otherwise.{DifferAt, IsOtherwise}
 use Rattle.rmp_round_trip.proofs.RoundLaws.{read_only, read_strictly, some_is}
 use Rattle.rmp_round_trip.specs.RoundTrip.{LowersTo, Only}
 
@@ -64,10 +65,19 @@ module _ {V : Type 0} (reads : Msg → V → Type 0) (same : V → V → Type 0)
       (read_only reads same (tree_of s (lowered v)) v w input [] r.bytes r.rest r.tree h i (spells_any true r.tree r.bytes r.spelled)
       (append-nil input ∙ r.front) r.holds).0
 
-  -- and is written so too, if values of the same content are written alike
+  -- and is written so too, since it is written alike
   pub written_else : {B : Type 0} (items : B → List ℕ) (v w : V) (written : Result B Error) → lowered w ≡ lowered v → IsSpelled (tree_of s (lowered v)) input
       → MatchResult written (λ b. IsSpelled (tree_of s (lowered w)) (items b)) (ToVecFails (tree_of s (lowered w)))
       → MatchResult written (λ b. items b ≢ input) (λ e. e ≢ errors.OutOfMemory) → ⊥
   written_else items v w (Ok b) e i p n = n (spelled_alike (tree_of s (lowered v)) (items b) input (subst (λ d. IsSpelled (tree_of s d) (items b)) e p) i)
   written_else items v w (Err x) e i p n =
       fails_without (tree_of s (lowered w)) x p n (subst (λ d. HasTree (tree_of s d)) (sym e) (has_tree (tree_of s (lowered v)) input i))
+
+  -- where what was written differs from the input, or that nothing is written
+  pub otherwise : {B : Type 0} (items : B → List ℕ) (w : V) (position : ℕ) (written : Result B Error)
+      → MatchResult written (λ b. IsSpelled (tree_of s (lowered w)) (items b)) (ToVecFails (tree_of s (lowered w)))
+      → MatchResult written (λ b. (at : ℕ) × (position ≡ suc at) × DifferAt (items b) input at) (λ _. position ≡ 0)
+      → MatchResult written (λ b. items b ≢ input) (λ e. e ≢ errors.OutOfMemory) → IsOtherwise (tree_of s (lowered w)) input position
+  otherwise items w position (Ok b) p d n = subst (IsOtherwise (tree_of s (lowered w)) input) (sym d.1) (items b, p, d.2)
+  otherwise items w position (Err x) p d n =
+      subst (IsOtherwise (tree_of s (lowered w)) input) (sym d) (λ h. fails_without (tree_of s (lowered w)) x p n h)

@@ -1,17 +1,10 @@
 -- Steps of turns, one after another, and the texts of keys.
-use Rattle.std.proofs.Common.{◌≡◌, ◌∙◌, sym, ap, subst, ℕ, ◌+◌, ◌<◌, List, [], ◌∷◌, ◌++◌, length, take, get_or, Some, Result, Ok, Err, MatchOption}
+use Rattle.std.proofs.Common.{◌≡◌, ◌∙◌, sym, ap, subst, ℕ, ◌+◌, ◌<◌, List, [], ◌∷◌, ◌++◌, length, take, get_or, Some}
 use Rattle.std.proofs.lemmas.List.{take_more}
-use Rattle.std.specs.Prelude.{IfOk}
-use Rattle.std.specs.Result.{result_ok}
-use Rattle.std.specs.declared.alloc.AllocError.{AllocError}
-use Rattle.rmp_decode.specs.declared.error.Error.{Error}
-use Rattle.rmp_path.specs.declared.location.Location.{Location}
-use Rattle.rmp_serde.specs.Explaining.{Refuses}
 use Rattle.rmp_wire.specs.Msg.{Msg, nil, truth, whole, float32, float64, text, bin, list, map, extension}
 use Rattle.rmp_path.specs.declared.turn.Turn.{Turn}
 use Rattle.rmp_serde.specs.Parts.{text_of}
-use Rattle.rmp_serde.specs.Paths.{IsStep, AreSteps, IsPathOf}
-use Rattle.rmp_serde.specs.declared.path.Path.{Path}
+use Rattle.rmp_serde.specs.Paths.{IsStep, AreSteps}
 use Rattle.rmp_serde.specs.declared.path.Step.{Step}
 
 pub steps_more : (input : List ℕ) (ts : List Turn) (ss : List Step) (t : Turn) (s : Step) → AreSteps input ts ss → IsStep input t s
@@ -37,10 +30,3 @@ pub steps_next : (input : List ℕ) (ts : List Turn) (i : ℕ) (ss : List Step) 
     → IsStep input (get_or ts i d) s → AreSteps input (take (i + 1) ts) (ss ++ s ∷ [])
 steps_next input ts i ss d s l h k = subst (λ z. AreSteps input z (ss ++ s ∷ [])) (sym (take_more ts i d l))
     (steps_more input (take i ts) ss (get_or ts i d) s h k)
-
--- the path to what was found, if there was memory for it
-pub found_path : (input : List ℕ) (position levels : ℕ) (error : Error) (found : Location) (r : Result Path AllocError)
-    → Refuses input position levels error found → IfOk r (IsPathOf input found)
-    → MatchOption (result_ok r) (Unit {0}) (λ p. (f : Location) × Refuses input position levels error f × IsPathOf input f p)
-found_path input position levels error found (Ok p) w h = (found, w, h)
-found_path input position levels error found (Err e) w h = tt

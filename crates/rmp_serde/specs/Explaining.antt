@@ -1,5 +1,9 @@
 -- What an explained refusal says.
-use Rattle.std.specs.Prelude.{◌≡◌, ◌⊎◌, ℕ, ◌-◌, List, length, Option, None, MatchOption}
+use Rattle.std.specs.Prelude.{◌≡◌, ◌⊎◌, ℕ, ◌-◌, ◌≤◌, List, ◌++◌, length, drop, Option, Some, None, MatchOption}
+use Rattle.rmp_wire.specs.Heads.{IsHead}
+use Rattle.rmp_wire.specs.Reading.{NoHead}
+use Rattle.rmp_wire.specs.declared.head.Head.{Head}
+use Rattle.rmp_wire.specs.declared.head.Head.TheVariants as heads
 use Rattle.rmp_wire.specs.declared.marker.Marker.TheVariants.{Reserved}
 use Rattle.rmp_decode.specs.declared.error.Error.{Error}
 use Rattle.rmp_decode.specs.declared.error.Error.TheVariants as errors
@@ -8,6 +12,8 @@ use Rattle.rmp_path.specs.declared.location.Location.{Location}
 use Rattle.rmp_serde.specs.Paths.{IsPathOf}
 use Rattle.rmp_serde.specs.declared.refusal.Explained.{Explained}
 use Rattle.rmp_serde.specs.declared.path.Path.{Path}
+use Rattle.rmp_serde.specs.declared.value.kind.Kind.{Kind}
+use Rattle.rmp_serde.specs.declared.value.kind.Kind.TheVariants as kinds
 
 abbrev pub error_in : Explained → Error
 error_in e = e.error
@@ -17,6 +23,27 @@ position_in e = e.position
 
 abbrev pub path_in : Explained → Option Path
 path_in e = e.path
+
+abbrev pub head_in : Explained → Option Head
+head_in e = e.head
+
+-- the kind of the message that a head begins
+abbrev pub kind_begun : Head → Kind
+kind_begun heads.Nil = kinds.Nil
+kind_begun (heads.Truth t) = kinds.Truth
+kind_begun (heads.Whole z) = kinds.Whole
+kind_begun (heads.F32Bits n) = kinds.F32
+kind_begun (heads.F64Bits n) = kinds.F64
+kind_begun (heads.Text n) = kinds.Text
+kind_begun (heads.Bin n) = kinds.Bytes
+kind_begun (heads.Array n) = kinds.List
+kind_begun (heads.Map n) = kinds.Map
+kind_begun (heads.Ext n tag) = kinds.Ext
+
+-- the bytes begin with this head, or with no whole one
+abbrev pub BeginsWith : List ℕ → Option Head → Type 0
+BeginsWith xs (Some h) = (head rest : List ℕ) × (xs ≡ head ++ rest) × IsHead h head
+BeginsWith xs None = NoHead (Some xs)
 
 -- the part at the last byte that was consumed, as many levels inside of the message as were counted
 abbrev pub IsInside : List ℕ → ℕ → ℕ → Location → Type 0
@@ -38,8 +65,21 @@ Refuses input position levels (errors.Syntax text) found = IsInside input positi
 Refuses input position levels (errors.Utf8Error e) found = IsInside input position levels found
 Refuses input position levels errors.OutOfMemory found = IsInside input position levels found
 
--- the error as it was, and the path to the refused part, unless memory for it was refused
+-- the path to the refused part, and the head that is there
+pub record NamesPart (input : List ℕ) (position levels : ℕ) (error : Error) (h : Option Head) (p : Path) : Type 0 where
+  pub found : Location
+  pub refused : Refuses input position levels error found
+  pub path : IsPathOf input found p
+  pub head : BeginsWith (drop found.place input) h
+
+-- the error as it was, and the path to the refused part with the head that is there, unless memory for it was refused
 pub record Explains (input : List ℕ) (position levels : ℕ) (error : Error) (e : Explained) : Type 0 where
   pub same : e.error ≡ error
   pub at : e.position ≡ position
-  pub path : MatchOption e.path (Unit {0}) (λ p. (found : Location) × Refuses input position levels error found × IsPathOf input found p)
+  pub path : MatchOption e.path (e.head ≡ None) (NamesPart input position levels error e.head)
+
+-- A read's error, explained: by where in the input the reader stopped, and some number of levels.
+pub record ExplainsRead (input : List ℕ) (e : Explained) : Type 0 where
+  pub within : e.position ≤ length input
+  pub levels : ℕ
+  pub explains : Explains input e.position levels e.error e

@@ -1,3 +1,7 @@
+pub use Rattle.rmp_decode.specs as Decoding
+pub use Rattle.rmp_encode.specs as Encoding
+pub use Rattle.rmp_recursive.specs as Recursion
+pub use Rattle.rmp_wire.specs as Wire
 pub use Rattle.rmp_wire.specs.Msg
 pub use Rattle.rmp_encode.specs.Calls
 pub use Rattle.rmp_encode.specs.Compounds
@@ -18,6 +22,8 @@ pub use Rattle.rmp_ends.specs.FieldEnds
 pub use Rattle.rmp_ends.specs.LeafEnds
 pub use Rattle.rmp_ends.specs.MapEnds
 pub use Rattle.rmp_ends.specs.RowEnds
+pub use Rattle.rmp_round_trip.specs.AlikeData
+pub use Rattle.rmp_round_trip.specs.AlikeOrder
 pub use Rattle.rmp_round_trip.specs.InTurn
 pub use Rattle.rmp_round_trip.specs.LeafRounds
 pub use Rattle.rmp_round_trip.specs.MapRounds
@@ -35,8 +41,10 @@ pub use Rattle.rmp_types.specs.Floats
 pub use Rattle.rmp_types.specs.Payloads
 pub use Rattle.rmp_types.specs.TimestampRounds
 pub use Rattle.rmp_types.specs.Timestamps
+pub mod Attributes
 pub mod Equal
 pub mod EqualLaws
+pub mod ExplainedText
 pub mod Explaining
 pub mod Flat
 pub mod Found
@@ -45,6 +53,7 @@ pub mod Making
 pub mod OpenParts
 pub mod OpenReadable
 pub mod PairsLeft
+pub mod Otherwise
 pub mod Parts
 pub mod PartsLeft
 pub mod Paths

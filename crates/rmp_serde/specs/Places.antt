@@ -34,7 +34,7 @@ use Rattle.rmp_decode.specs.Refuse.{HeadIsCut, ContentIsCut, IsReserved}
 use Rattle.rmp_decode.specs.declared.error.Error.{Error}
 use Rattle.rmp_decode.specs.declared.error.Error.TheVariants.{InvalidMarkerRead, InvalidDataRead, TypeMismatch}
 
--- the offset is at least n, and P holds of the offset less n
+-- the offset is n and some more, of which P is true
 abbrev pub After : ℕ → (ℕ → Type 0) → ℕ → Type 0
 After n P p = (q : ℕ) × (p ≡ n + q) × P q
 
@@ -42,16 +42,9 @@ After n P p = (q : ℕ) × (p ≡ n + q) × P q
 -- a map, after the head and the parts before some part, each node of that part.
 abbrev mutual
   pub BeginsAt : Msg → ℕ → Type 0
-  BeginsAt nil p = p ≡ 0
-  BeginsAt (truth t) p = p ≡ 0
-  BeginsAt (whole z) p = p ≡ 0
-  BeginsAt (float32 n) p = p ≡ 0
-  BeginsAt (float64 n) p = p ≡ 0
-  BeginsAt (text s) p = p ≡ 0
-  BeginsAt (bin s) p = p ≡ 0
   BeginsAt (list ms) p = (p ≡ 0) ⊎ After (length (canon_head (Array (count ms)))) (λ q. BeginsAmong ms q) p
   BeginsAt (map ps) p = (p ≡ 0) ⊎ After (length (canon_head (Map (count_pairs ps)))) (λ q. BeginsAmongPairs ps q) p
-  BeginsAt (extension tag s) p = p ≡ 0
+  BeginsAt m p = p ≡ 0
 
   pub BeginsAmong : Msgs → ℕ → Type 0
   BeginsAmong no_items p = ⊥
@@ -70,7 +63,7 @@ pub record IsWhole (input : List ℕ) (n : ℕ) : Type 0 where
   pub long : n ≡ length (canon tree)
 
 -- A node of some message begins at the offset p, the first p bytes are those of the message's canonical
--- spelling, and P holds of the bytes from there on.
+-- spelling, and P is true of the bytes from there on.
 pub record Reaches (P : List ℕ → Type 0) (input : List ℕ) (p : ℕ) : Type 0 where
   pub tree : Msg
   pub before : List ℕ

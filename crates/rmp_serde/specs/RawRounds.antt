@@ -12,6 +12,10 @@ use Rattle.rmp_round_trip.specs.OnlyLeaves.{raw_is}
 use Rattle.rmp_round_trip.specs.OnlyRows.{lowers_then}
 use Rattle.rmp_round_trip.specs.RoundTrip.{LowersTo}
 
+-- the same bytes are written alike
+pub raw_alike : (a b : List ℕ) → a ≡ b → Some (raw_data a) ≡ Some (raw_data b)
+raw_alike a b e = λ i. Some (raw_data (e i))
+
 module _ (s : Settings) where
   either_row : (b : Bool) (t : List ℕ) → LowersTo s (Some (cond b (text t) (bytes t))) (λ m. IsRaw m t)
   unfolding lower

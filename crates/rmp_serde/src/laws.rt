@@ -28,11 +28,11 @@ ghost use Rattle.rmp_serde.specs.Refuse.{UnreadFor};
 ghost use Rattle.rmp_serde.specs.ValueData.{value_data};
 
 use crate::decode::Deserialize;
-pub use rmp_encode::laws::known_and_unknown_lengths;
+pub use rmp_encode::laws::{known_and_unknown_lengths, written_is_canonical};
 pub use rmp_ends::laws::ends_are_inside;
 pub use rmp_round_trip::laws::{
-    names_are_found, values_come_back, values_in_turn, versions_are_read, widths_are_alike,
-    written_is_read,
+    messages_in_turn, names_are_found, values_come_back, values_in_turn, versions_are_read,
+    widths_are_alike, written_is_read,
 };
 use rmp_wire::{ByteBuf, Bytes, Ext, ReadSlice, Reference};
 

@@ -11,7 +11,9 @@ mod raw;
 mod refusal;
 mod value;
 
-pub use canonical::{from_slice_canonical, from_slice_canonical_named};
+pub use canonical::{
+    Structs, from_slice_canonical, from_slice_canonical_explained, from_slice_canonical_named,
+};
 pub use check::{Canon, check_canonical};
 pub use decode::{Deserializer, from_read, from_read_ref, from_slice, from_slice_strict};
 pub use encode::{Serializer, to_vec, to_vec_named};
@@ -21,7 +23,7 @@ pub use refusal::{Explained, explain, from_slice_explained, from_slice_strict_ex
 pub use rmp_decode::Deserialize;
 pub use rmp_encode::Serialize;
 pub use rmp_ends::EndsInside;
-pub use rmp_round_trip::{NeverNil, RoundTrip};
+pub use rmp_round_trip::{ContentOrd, NeverNil, RoundTrip};
 pub use rmp_scan::{Scan, Scanner, message_len};
 pub use rmp_types::{Float64, Timestamp};
 pub use rmp_wire as wire;

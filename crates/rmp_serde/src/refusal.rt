@@ -1,22 +1,28 @@
 //! A refusal that says where in the message it is.
-ghost use Rattle.std.specs.Prelude.{◌≡◌, ◌≢◌, ◌-◌, ℕ, IfOk, IfErr, false, true, length, Some};
-ghost use Rattle.std.specs.Option.{option_copied};
+ghost use Rattle.std.specs.Prelude.{◌≡◌, ◌≢◌, ◌++◌, ◌-◌, IfOk, IfErr, codes, drop, false, true, length, Some};
+ghost use Rattle.std.specs.Fmt.{DisplaysOnOk, WritesOnOk};
+ghost use Rattle.std.specs.Option.{option_copied, option_map};
 ghost use Rattle.rmp_wire.specs.Canonical.{IsCanonical};
 ghost use Rattle.rmp_wire.specs.RefReader.{rest_of, whole_of};
 ghost use Rattle.rmp_wire.specs.Spelling.{Spells};
 ghost use Rattle.rmp_decode.specs.Law.{Begins, Readable};
 ghost use Rattle.rmp_decode.specs.Refusing.{slice_setting};
 ghost use Rattle.rmp_decode.specs.State.{reader_of, refused_levels};
-ghost use Rattle.rmp_serde.specs.Explaining.{error_in, path_in, position_in, Explains, IsInside, Refuses};
+ghost use Rattle.rmp_decode.specs.Words.{field_of};
+ghost use Rattle.rmp_serde.specs.ExplainedText.{count_text, error_text, fault_text, head_words, is_for_parts, name_text, part_text, path_words};
+ghost use Rattle.rmp_serde.specs.Explaining.{error_in, head_in, kind_begun, path_in, position_in};
+ghost use Rattle.rmp_serde.specs.Paths.{steps_of};
+ghost use Rattle.rmp_serde.specs.Explaining.{BeginsWith, Explains, ExplainsRead, IsInside, NamesPart, Refuses};
 
 use crate::path::{Path, path_of};
 use crate::value::Kind;
 use crate::value::text::quoted::write_quoted;
-use rmp_decode::{Deserialize, Deserializer, Error};
+use rmp_decode::{Deserialize, Deserializer, Error, Text};
 use rmp_path::{Location, locate};
 use rmp_wire::{Head, Marker, ReadRefReader, next_head};
 use std::alloc::{AllocError, Global};
 use std::fmt;
+use std::io::ErrorKind;
 
 /// A read's error, and the part of the message that was refused.
 ///
@@ -38,16 +44,10 @@ impl Explained {
     pub fn new(alloc: Global, input: &[u8], position: usize, levels: u32, error: Error) -> Explained
         ensures { Explains input.now position levels error result }
     {
-        let Ok(found) = refused_part(alloc, input, position, levels, &error) else {
-            return Explained {
-                error,
-                position,
-                path: None,
-                head: None,
-            };
+        let (path, head) = match named_part(alloc, input, position, levels, &error) {
+            Ok((path, head)) => (Some(path), head),
+            Err(AllocError) => (None, None),
         };
-        let head = head_at(input, found.place);
-        let path = path_of(alloc, input, found).ok();
         Explained {
             error,
             position,
@@ -84,12 +84,11 @@ impl Explained {
         self.position
     }
 
-    /// Returns the kind of the refused part, or `None` if no whole head is there.
-    pub fn kind(&self) -> Option<Kind> {
-        match self.head {
-            Some(head) => Some(kind_of(head)),
-            None => None,
-        }
+    /// Returns the kind of the refused part, or `None` if no whole head is there, or if memory was refused for the path.
+    pub fn kind(&self) -> Option<Kind>
+        ensures { result ≡ option_map kind_begun (head_in self.now) }
+    {
+        self.head.map(kind_of)
     }
 }
 
@@ -137,8 +136,8 @@ pub fn from_slice_explained<'de, T: Deserialize<'de, ReadRefReader<'de>>>(
     ensures ok { IfOk result (λ v. Begins Spells (λ m. T.reads false true m v) 1024 input.now) }
     ensures err { IfErr result (λ e. error_in e ≢ Error.OutOfMemory → Begins Spells (Readable (T.reads false true)) 1024 input.now → ⊥) }
     ensures refused { IfErr result (λ e. T.refuses (slice_setting false) 0 0 (Some input.now) (error_in e)) }
-    // And it names the part.
-    ensures explained { IfErr result (λ e. (position : ℕ) × (levels : ℕ) × Explains input.now position levels (error_in e) e) }
+    // And it names the part, by how much of the input was consumed.
+    ensures explained { IfErr result (ExplainsRead input.now) }
 {
     let mut de = Deserializer::from_read_ref(alloc, input);
     match T::deserialize(&mut de) {
@@ -158,7 +157,7 @@ pub fn from_slice_strict_explained<'de, T: Deserialize<'de, ReadRefReader<'de>>>
     ensures ok { IfOk result (λ v. Begins IsCanonical (λ m. T.reads false true m v) 1024 input.now) }
     ensures err { IfErr result (λ e. error_in e ≢ Error.OutOfMemory → Begins IsCanonical (Readable (T.reads false true)) 1024 input.now → ⊥) }
     ensures refused { IfErr result (λ e. T.refuses (slice_setting true) 0 0 (Some input.now) (error_in e)) }
-    ensures explained { IfErr result (λ e. (position : ℕ) × (levels : ℕ) × Explains input.now position levels (error_in e) e) }
+    ensures explained { IfErr result (ExplainsRead input.now) }
 {
     let mut de = Deserializer::from_read_ref(alloc, input).with_binary();
     de.set_strict(true);
@@ -166,6 +165,21 @@ pub fn from_slice_strict_explained<'de, T: Deserialize<'de, ReadRefReader<'de>>>
         Ok(value) => Ok(value),
         Err(error) => Err(explain(&de, error)),
     }
+}
+
+// The path to the part that an error refuses, and the head that is there.
+fn named_part(
+    alloc: Global,
+    input: &[u8],
+    position: usize,
+    levels: u32,
+    error: &Error,
+) -> Result<(Path, Option<Head>), AllocError>
+    ensures { IfOk result (λ part. NamesPart input.now position levels error.now part.1 part.0) }
+{
+    let found = refused_part(alloc, input, position, levels, error)?;
+    let head = head_at(input, found.place);
+    Ok((path_of(alloc, input, found)?, head))
 }
 
 // The part that an error refuses. Where the message itself is broken it is the innermost one, and otherwise so many levels inside.
@@ -211,15 +225,22 @@ fn part_inside(
 }
 
 // The head at an offset, if a whole one is there.
-fn head_at(input: &[u8], place: usize) -> Option<Head> {
-    let mut rest = input.get(place..)?;
+fn head_at(input: &[u8], place: usize) -> Option<Head>
+    ensures { BeginsWith (drop place input.now) result }
+{
+    if place > input.len() {
+        return None;
+    }
+    let mut rest = &input[place..];
     match next_head(&mut rest) {
         Ok((_, head)) => Some(head),
         Err(_) => None,
     }
 }
 
-fn kind_of(head: Head) -> Kind {
+fn kind_of(head: Head) -> Kind
+    ensures { result ≡ kind_begun head }
+{
     match head {
         Head::Nil => Kind::Nil,
         Head::Truth(_) => Kind::Truth,
@@ -235,70 +256,155 @@ fn kind_of(head: Head) -> Kind {
 }
 
 // Whether a list or a map is refused for its parts, all of which are well by themselves.
-fn is_for_parts(error: &Error) -> bool {
+fn is_for_parts(error: &Error) -> bool
+    ensures { result ≡ is_for_parts error.now }
+{
     match error {
         Error::LengthMismatch(_) => true,
-        Error::Syntax(text) => matches!(
-            text.as_str(),
-            "missing field" | "duplicate field" | "invalid length"
-        ),
+        Error::Syntax(Text::MissingField(_)) => true,
+        Error::Syntax(Text::DuplicateField) => true,
+        Error::Syntax(Text::InvalidLength) => true,
         _ => false,
     }
 }
 
+/// The line is proved, but for what an error says of a marker or of bytes that are not UTF-8, and for faults of a source.
 impl fmt::Display for Explained {
+    ghost use Rattle.rmp_serde.specs.ExplainedText.{explained_text};
+
+    ghost output = { explained_text };
+
     fn fmt<W: fmt::Write>(&self, f: &mut fmt::Formatter<W>) -> fmt::Result {
-        write!(f, "{}", self.error)?;
-        if let Some(name) = self.error.field() {
-            f.write_str(" ")?;
-            write_quoted(f, name)?;
-        }
-        let Some(path) = &self.path else {
-            return Ok(());
-        };
-        let for_parts = is_for_parts(&self.error);
-        if !path.steps().is_empty() {
-            f.write_str(if for_parts { " in " } else { " at " })?;
-            write!(f, "{path}")?;
-        }
-        if for_parts {
-            return write!(f, " (byte {})", self.position);
-        }
-        write!(f, " (byte {})", path.place())?;
-        match self.head {
-            Some(head) => write_head(f, head),
+        write_error(f, &self.error)?;
+        write_name(f, &self.error)?;
+        match &self.path {
+            Some(path) => write_part(f, self, path),
             None => Ok(()),
         }
     }
 }
 
+// Writes the error as its own `Display` does.
+fn write_error<W: fmt::Write>(f: &mut fmt::Formatter<W>, error: &Error) -> fmt::Result
+    ensures writes { DisplaysOnOk W.write_str_gives f.old result (error_text error.now) f.new }
+{
+    match error {
+        Error::InvalidMarkerRead(fault) => {
+            f.write_str("IO error while reading marker: ")?;
+            write_fault(f, fault.kind())
+        }
+        Error::InvalidDataRead(fault) => {
+            f.write_str("IO error while reading data: ")?;
+            write_fault(f, fault.kind())
+        }
+        Error::TypeMismatch(_) => write!(f, "{error}"),
+        Error::OutOfRange => f.write_str("numeric cast found out of range"),
+        Error::LengthMismatch(len) => write!(f, "array had incorrect length, expected {len}"),
+        Error::Uncategorized(text) => {
+            f.write_str("uncategorized error: ")?;
+            f.write_str(text.as_str())
+        }
+        Error::Syntax(text) => f.write_str(text.as_str()),
+        Error::Utf8Error(_) => write!(f, "{error}"),
+        Error::DepthLimitExceeded => f.write_str("depth limit exceeded"),
+        Error::OutOfMemory => f.write_str("out of memory"),
+        Error::NotCanonical => f.write_str("not canonical"),
+    }
+}
+
+// Writes what failed, as the kind's own `Display` does.
+fn write_fault<W: fmt::Write>(f: &mut fmt::Formatter<W>, kind: ErrorKind) -> fmt::Result
+    ensures writes { DisplaysOnOk W.write_str_gives f.old result (fault_text kind) f.new }
+{
+    match kind {
+        ErrorKind::UnexpectedEof => f.write_str("unexpected end of file"),
+        _ => write!(f, "{kind}"),
+    }
+}
+
+// Writes the name of the field that is missing.
+fn write_name<W: fmt::Write>(f: &mut fmt::Formatter<W>, error: &Error) -> fmt::Result
+    ensures writes { WritesOnOk W.write_str_gives f.old result (name_text (field_of error.now)) f.new }
+{
+    match error.field() {
+        Some(name) => {
+            f.write_str(" ")?;
+            write_quoted(f, name)
+        }
+        None => f.write_str(""),
+    }
+}
+
+// Writes where the refused part is, and what is there.
+fn write_part<W: fmt::Write>(
+    f: &mut fmt::Formatter<W>,
+    refused: &Explained,
+    path: &Path,
+) -> fmt::Result
+    ensures writes { WritesOnOk W.write_str_gives f.old result
+        (part_text (is_for_parts (error_in refused.now)) (position_in refused.now) (head_in refused.now) path.now) f.new }
+{
+    if is_for_parts(&refused.error) {
+        write_path(f, " in ", path)?;
+        return write!(f, " (byte {})", refused.position);
+    }
+    write_path(f, " at ", path)?;
+    write!(f, " (byte {})", path.place())?;
+    match refused.head {
+        Some(head) => write_head(f, head),
+        None => Ok(()),
+    }
+}
+
+// Writes a word and the path, unless it is that of the message itself.
+fn write_path<W: fmt::Write>(f: &mut fmt::Formatter<W>, word: &str, path: &Path) -> fmt::Result
+    ensures writes { WritesOnOk W.write_str_gives f.old result (path_words word.now path.now (steps_of path.now)) f.new }
+{
+    if path.steps().is_empty() {
+        return f.write_str("");
+    }
+    f.write_str(word)?;
+    write!(f, "{path}")
+}
+
 // Writes what is there, in words.
-fn write_head<W: fmt::Write>(f: &mut fmt::Formatter<W>, head: Head) -> fmt::Result {
+fn write_head<W: fmt::Write>(f: &mut fmt::Formatter<W>, head: Head) -> fmt::Result
+    ensures writes { WritesOnOk W.write_str_gives f.old result (codes ": " ++ head_words head) f.new }
+{
     f.write_str(": ")?;
     match head {
         Head::Nil => f.write_str("nil"),
-        Head::Truth(truth) => write!(f, "{truth}"),
+        Head::Truth(truth) => f.write_str(if truth { "true" } else { "false" }),
         Head::Whole(number) => write!(f, "the integer {number}"),
         Head::F32Bits(_) => f.write_str("a float of 32 bits"),
         Head::F64Bits(_) => f.write_str("a float of 64 bits"),
-        Head::Text(len) => write_count(f, "a text of ", len, "byte"),
-        Head::Bin(len) => write_count(f, "bytes, ", len, "byte"),
-        Head::Array(len) => write_count(f, "a list of ", len, "element"),
-        Head::Map(len) => write_count(f, "a map of ", len, "pair"),
+        Head::Text(len) => {
+            f.write_str("a text of ")?;
+            write_count(f, len, "byte")
+        }
+        Head::Bin(len) => {
+            f.write_str("bytes, ")?;
+            write_count(f, len, "byte")
+        }
+        Head::Array(len) => {
+            f.write_str("a list of ")?;
+            write_count(f, len, "element")
+        }
+        Head::Map(len) => {
+            f.write_str("a map of ")?;
+            write_count(f, len, "pair")
+        }
         Head::Ext(len, tag) => {
             write!(f, "an extension of type {tag}, ")?;
-            write_count(f, "", len, "byte")
+            write_count(f, len, "byte")
         }
     }
 }
 
-// Writes how many there are of something.
-fn write_count<W: fmt::Write>(
-    f: &mut fmt::Formatter<W>,
-    before: &str,
-    count: u32,
-    what: &str,
-) -> fmt::Result {
-    write!(f, "{before}{count} {what}")?;
+// Writes a number, and what it counts.
+fn write_count<W: fmt::Write>(f: &mut fmt::Formatter<W>, count: u32, what: &str) -> fmt::Result
+    ensures writes { WritesOnOk W.write_str_gives f.old result (count_text count what.now) f.new }
+{
+    write!(f, "{count} {what}")?;
     f.write_str(if count == 1 { "" } else { "s" })
 }

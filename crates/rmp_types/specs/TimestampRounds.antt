@@ -17,6 +17,11 @@ use Rattle.rmp_types.specs.Timestamps.{IsTimeHead, IsTimestamp, not_time, time_t
 use Rattle.rmp_types.specs.declared.timestamp.Timestamp.{Timestamp}
 use Rattle.rmp_types.specs.Says.{payload_says, says_once}
 
+-- points in time of the same content are written alike
+pub time_alike : (y z : ℤ) (j k : ℕ) → (y ≡ z) × (j ≡ k)
+    → Some (extension time_tag (time_payload y j)) ≡ Some (extension time_tag (time_payload z k))
+time_alike y z j k e = λ i. Some (extension time_tag (time_payload (e.0 i) (e.1 i)))
+
 module _ (s : Settings) where
   pub time_row : (seconds : ℤ) (nanoseconds : ℕ) → FitsSigned w64 seconds → nanoseconds ≤ 999999999
       → LowersTo s (Some (extension time_tag (time_payload seconds nanoseconds))) (λ m. IsTimestamp m seconds nanoseconds)

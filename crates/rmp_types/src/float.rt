@@ -8,6 +8,7 @@ ghost use Rattle.rmp_encode.specs.Data.{float64};
 ghost use Rattle.rmp_encode.specs.Refusals.{OfSink};
 ghost use Rattle.rmp_encode.specs.Writes.{AtItem};
 ghost use Rattle.rmp_decode.specs.Exact.{RefusesExactly};
+ghost use Rattle.rmp_round_trip.specs.AlikeData.{float64_alike};
 ghost use Rattle.rmp_round_trip.specs.LeafRounds.{float64_other};
 ghost use Rattle.rmp_types.specs.Floats.{IsFloat, not_float};
 ghost use Rattle.rmp_types.specs.FloatHeads.{IsFloatHead, NoFloatHead};
@@ -142,6 +143,8 @@ impl<'de, R: ReadSlice<'de>> RoundTrip<'de, R> for Float64 {
     ghost round = { λ lent s v fits. float_row s v.bits };
 
     ghost same = { λ v w. v.bits ≡ w.bits };
+
+    ghost alike = { λ human v w h. float64_alike v.bits w.bits h };
 
     ghost only = { λ s v fits. float_only s v.bits };
 }

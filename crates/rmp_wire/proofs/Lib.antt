@@ -3,6 +3,7 @@ pub mod Canonical
 pub mod Copying
 pub mod Cursors
 pub mod Examples
+pub mod HeadBytes
 pub mod HeadReads
 pub mod Heads
 pub mod Lists

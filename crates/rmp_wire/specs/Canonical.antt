@@ -6,7 +6,7 @@ use Rattle.rmp_wire.specs.Heads.{IsHead, SignedAny}
 use Rattle.rmp_wire.specs.Msg.{Msg, Msgs, Pairs}
 use Rattle.rmp_wire.specs.Spelling.{SpelledBy, AllSpelledBy, PairsSpelledBy}
 
--- no head of the same kind and number is shorter, and a number from 0 on is in no signed format
+-- a head of this kind and number than which none is shorter, and in which a number from 0 on is unsigned
 pub record IsCanonicalHead (h : Head) (a : List ℕ) : Type 0 where
   pub is_head : IsHead h a
   pub shortest : (b : List ℕ) → IsHead h b → length a ≤ length b

@@ -5,7 +5,7 @@ use Rattle.rmp_wire.specs.declared.error.IoFault.{IoFault}
 use Rattle.rmp_wire.specs.declared.error.ValueWriteError.{ValueWriteError}
 use Rattle.rmp_wire.specs.declared.error.ValueWriteError.TheVariants.{InvalidMarkerWrite, InvalidDataWrite, OutOfMemory}
 
--- `fault.kind()`
+-- the kind that `IoFault::kind` returns
 abbrev pub fault_kind : IoFault → ErrorKind
 fault_kind fault = fault.kind
 

@@ -30,11 +30,11 @@ tag_byte tag = cast_unsigned w8 tag
 abbrev pub FixedExt : ℕ → ℕ → ℕ → ℤ → List ℕ → Type 0
 FixedExt marker k n tag head = (n ≡ k) × FitsSigned w8 tag × (head ≡ marker ∷ tag_byte tag ∷ [])
 
--- an extension of any length that the width holds: the marker, the length, then the type
+-- an extension of a length in the width's range: the marker, the length, then the type
 abbrev pub WideExt : ℕ → Width → ℕ → ℤ → List ℕ → Type 0
 WideExt marker w n tag head = (n < 2 ^ bits w) × FitsSigned w8 tag × (head ≡ marker ∷ (to_be_bytes w n ++ tag_byte tag ∷ []))
 
--- These bytes are a head of that kind and number: an alternative for each marker that holds the number.
+-- These bytes are a head of that kind and number: an alternative for each marker that can have the number.
 -- ("nil format", "bool format family", "int ..", "float ..", "str ..", "bin ..", "array ..", "map ..", "ext format family".)
 unfoldable pub IsHead : Head → List ℕ → Type 0
 IsHead Nil head = head ≡ 0xc0 ∷ []
@@ -100,8 +100,6 @@ canon_head (Ext n tag) =
 
 -- the kind and number have a head ("Type system", "Limitation": the range of integers, and the greatest length of each kind)
 unfoldable pub fits_head : Head → Type 0
-fits_head Nil = Unit {0}
-fits_head (Truth t) = Unit {0}
 fits_head (Whole (pos n)) = n < 2 ^ 64
 fits_head (Whole (negsuc n)) = n < 2 ^ 63
 fits_head (F32Bits n) = n < 2 ^ 32
@@ -111,3 +109,4 @@ fits_head (Bin n) = n < 2 ^ 32
 fits_head (Array n) = n < 2 ^ 32
 fits_head (Map n) = n < 2 ^ 32
 fits_head (Ext n tag) = (n < 2 ^ 32) × FitsSigned w8 tag
+fits_head h = Unit {0}

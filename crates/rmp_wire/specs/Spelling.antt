@@ -26,10 +26,11 @@ use Rattle.rmp_wire.specs.Msg.{
   count_pairs,
 }
 
+-- each number is below 256
 abbrev pub IsBytes : List ℕ → Type 0
 IsBytes bytes = AllByRecursion (λ b. b < 256) bytes
 
--- bytes that P holds of, and then bytes that Q holds of
+-- bytes of which P is true, and then bytes of which Q is true
 pub record Joined (P Q : List ℕ → Type 0) (whole : List ℕ) : Type 0 where
   pub first : List ℕ
   pub second : List ℕ
@@ -37,7 +38,7 @@ pub record Joined (P Q : List ℕ → Type 0) (whole : List ℕ) : Type 0 where
   pub is_second : Q second
   pub is_whole : whole ≡ first ++ second
 
--- the content of a text, of bytes and of an extension
+-- The content of a text, of bytes or of an extension is these bytes, as they are.
 abbrev pub IsContent : List ℕ → List ℕ → Type 0
 IsContent s content = (content ≡ s) × IsBytes s
 
@@ -65,7 +66,7 @@ module _ (heads : Head → List ℕ → Type 0) where
     PairsSpelledBy b no_pairs = b ≡ []
     PairsSpelledBy b (pair k v ps) = Joined (λ first. SpelledBy first k) (Joined (λ second. SpelledBy second v) (λ rest. PairsSpelledBy rest ps)) b
 
--- in any widths
+-- These bytes spell the message, each head in any width.
 abbrev pub Spells : List ℕ → Msg → Type 0
 Spells = SpelledBy IsHead
 
@@ -75,7 +76,7 @@ SpellsAll = AllSpelledBy IsHead
 abbrev pub SpellsPairs : List ℕ → Pairs → Type 0
 SpellsPairs = PairsSpelledBy IsHead
 
--- The spelling with only canonical heads.
+-- The message's spelling by canonical heads alone.
 abbrev mutual
   pub canon : Msg → List ℕ
   canon nil = canon_head Nil

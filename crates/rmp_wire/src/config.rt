@@ -16,7 +16,7 @@ pub enum BytesMode {
 
 /// Settings that a type fixes.
 pub trait SerializerConfig: Copy {
-    ghost human: { Self → Bool };
+    ghost human: { Bool };
 
     ghost named: { Self → Bool };
 
@@ -24,7 +24,7 @@ pub trait SerializerConfig: Copy {
 
     /// Whether types with a human-readable and a compact form are written in the human-readable form.
     fn is_human_readable(&self) -> bool
-        ensures { result ≡ human self.now };
+        ensures { result ≡ human };
 
     /// Whether structs are written as maps from field names.
     fn is_named(&self) -> bool
@@ -42,7 +42,7 @@ pub struct DefaultConfig;
 impl SerializerConfig for DefaultConfig {
     ghost use Rattle.rmp_wire.specs.declared.config.BytesMode.TheVariants.{Normal};
 
-    ghost human = { λ _. false };
+    ghost human = { false };
 
     ghost named = { λ _. false };
 
@@ -81,7 +81,7 @@ impl<C> StructMapConfig<C> {
 impl<C: SerializerConfig> SerializerConfig for StructMapConfig<C> {
     ghost use Rattle.rmp_wire.specs.Settings.{map_inner};
 
-    ghost human = { λ c. C.human (map_inner c) };
+    ghost human = { C.human };
 
     ghost named = { λ _. true };
 
@@ -120,7 +120,7 @@ impl<C> StructTupleConfig<C> {
 impl<C: SerializerConfig> SerializerConfig for StructTupleConfig<C> {
     ghost use Rattle.rmp_wire.specs.Settings.{tuple_inner};
 
-    ghost human = { λ c. C.human (tuple_inner c) };
+    ghost human = { C.human };
 
     ghost named = { λ _. false };
 
@@ -159,7 +159,7 @@ impl<C> HumanReadableConfig<C> {
 impl<C: SerializerConfig> SerializerConfig for HumanReadableConfig<C> {
     ghost use Rattle.rmp_wire.specs.Settings.{readable_inner};
 
-    ghost human = { λ _. true };
+    ghost human = { true };
 
     ghost named = { λ c. C.named (readable_inner c) };
 
@@ -198,7 +198,7 @@ impl<C> BinaryConfig<C> {
 impl<C: SerializerConfig> SerializerConfig for BinaryConfig<C> {
     ghost use Rattle.rmp_wire.specs.Settings.{binary_inner};
 
-    ghost human = { λ _. false };
+    ghost human = { false };
 
     ghost named = { λ c. C.named (binary_inner c) };
 

@@ -29,10 +29,10 @@ pub trait Sink {
     // What `TAKES_MEMORY` says.
     ghost takes_memory: { Bool };
 
-    // The bytes written so far, where the sink tells them.
+    // The bytes that it has, where the sink tells them.
     ghost told: { Self → Option (List ℕ) } = { λ _. None };
 
-    // The number of faults so far; 2 ^ 64 - 1 is followed by 0.
+    // How many faults there were; 2 ^ 64 - 1 is followed by 0.
     ghost faults: { Self → ℕ };
 
     // The references that the sink writes through.

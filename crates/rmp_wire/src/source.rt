@@ -18,7 +18,7 @@ pub trait Source {
     // The remaining bytes, where the source tells them.
     ghost ahead: { Self → Option (List ℕ) };
 
-    // The number of faults so far; 2 ^ 64 - 1 is followed by 0.
+    // How many faults there were; 2 ^ 64 - 1 is followed by 0.
     ghost faults: { Self → ℕ };
 
     // What reads don't change: the references that the source reads through, and the slice that it was made of.

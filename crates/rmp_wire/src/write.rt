@@ -1,8 +1,8 @@
 //! Writes single items, each in its canonical encoding, to any sink.
 //!
-//! A head is one piece, the marker and the bytes of its number; each branch knows its size. Texts and bytes are
-//! written without a copy. A fault before an item's first byte is `InvalidMarkerWrite`, and a later one
-//! `InvalidDataWrite`. No call continues after a fault.
+//! A head is one piece, the marker and the bytes of its number; each branch knows its size. That of a float is one integer, from its
+//! lowest byte on: copying an array that was filled in two steps would wait for both. Texts and bytes are written without a copy. A fault
+//! before an item's first byte is `InvalidMarkerWrite`, and a later one `InvalidDataWrite`. No call continues after a fault.
 #![tactic(auto, unfolding(crate::specs::Heads::canon_head, crate::specs::Taking::byte_of))]
 
 ghost use Rattle.std.specs.Prelude.{◌≡◌, ℕ, ◌<◌, ◌^◌, [], ◌∷◌, ◌++◌, length, pos};
@@ -64,6 +64,28 @@ fn put_64<W: Sink>(sink: &mut W, marker: Marker, n: u64) -> Result<(), ValueWrit
     let mut piece = [marker.to_u8(); 9];
     piece[1..].copy_from_slice(&n.to_be_bytes());
     sink.put_all(&piece)
+}
+
+// The same of a float's bits, as one integer.
+#[inline(always)]
+#[tactic(auto, using(crate::proofs::HeadBytes::head_4))]
+fn put_bits_32<W: Sink>(sink: &mut W, marker: Marker, n: u32) -> Result<(), ValueWriteError>
+    ensures writes { Writes W.Sink (byte_of marker ∷ to_be_bytes w32 n) sink.old sink.new result }
+    ensures place { W.place sink.new ≡ W.place sink.old }
+{
+    let piece = (u64::from(marker.to_u8()) + 256 * u64::from(n.swap_bytes())).to_le_bytes();
+    sink.put_all(&piece[..5])
+}
+
+// The same of a float's bits, as one integer.
+#[inline(always)]
+#[tactic(auto, using(crate::proofs::HeadBytes::head_8))]
+fn put_bits_64<W: Sink>(sink: &mut W, marker: Marker, n: u64) -> Result<(), ValueWriteError>
+    ensures writes { Writes W.Sink (byte_of marker ∷ to_be_bytes w64 n) sink.old sink.new result }
+    ensures place { W.place sink.new ≡ W.place sink.old }
+{
+    let piece = (u128::from(marker.to_u8()) + 256 * u128::from(n.swap_bytes())).to_le_bytes();
+    sink.put_all(&piece[..9])
 }
 
 /// Writes nil.
@@ -150,7 +172,7 @@ pub fn write_f32_bits<W: Sink>(sink: &mut W, bits: u32) -> Result<(), ValueWrite
     ensures writes { Writes W.Sink (canon_head (F32Bits bits)) sink.old sink.new result }
     ensures place { W.place sink.new ≡ W.place sink.old }
 {
-    put_32(sink, Marker::F32, bits)
+    put_bits_32(sink, Marker::F32, bits)
 }
 
 /// Writes the bits of a 64-bit float.
@@ -162,7 +184,7 @@ pub fn write_f64_bits<W: Sink>(sink: &mut W, bits: u64) -> Result<(), ValueWrite
     ensures writes { Writes W.Sink (canon_head (F64Bits bits)) sink.old sink.new result }
     ensures place { W.place sink.new ≡ W.place sink.old }
 {
-    put_64(sink, Marker::F64, bits)
+    put_bits_64(sink, Marker::F64, bits)
 }
 
 /// Writes the head of a text of `len` bytes.

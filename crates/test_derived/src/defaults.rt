@@ -31,8 +31,6 @@ pub struct Server {
     // derive: default
     pub shift: i8,
     pub note: Option<String>,
-    // derive: default = true
-    pub open: bool,
     // derive: default = '/'
     pub sign: char,
     // derive: default = CORNER

@@ -41,10 +41,6 @@ pub struct Row {
     pub kennel: Kennel,
 }
 
-/// One of two numbers, in a newtype variant.
-#[derive(Drop)]
-pub struct Chosen(pub Either<u8>);
-
 /// Types of other files that have parameters.
 #[derive(Drop)]
 pub struct Guests {

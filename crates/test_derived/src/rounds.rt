@@ -11,8 +11,8 @@ ghost use Rattle.rmp_wire.specs.Spelling.{Spells};
 use crate::kinds::{Kennel, Sorted};
 use rmp_decode::Deserialize;
 use rmp_encode::Serialize;
-use rmp_round_trip::RoundTrip;
 use rmp_round_trip::laws::written_is_read;
+use rmp_round_trip::{ContentOrd, RoundTrip};
 use rmp_wire::ReadSlice;
 
 /// A kennel that was written is read.
@@ -26,7 +26,7 @@ pub fn kennels_come_back<'de, R: ReadSlice<'de>>()
 }
 
 /// So are maps and sets, where the keys are, and from bytes that are lent where the keys borrow.
-pub fn sorted_come_back<'de, R: ReadSlice<'de>, K: RoundTrip<'de, R> + Ord>()
+pub fn sorted_come_back<'de, R: ReadSlice<'de>, K: ContentOrd<'de, R>>()
     ensures { (K.borrows ≡ true → R.lends ≡ true) → (s : Settings) (v : _) (b x : List ℕ) (room : ℕ) → ⟦<Sorted<K> as Serialize>⟧.is_value v
         → IsSpelled (tree_of s (⟦<Sorted<K> as Serialize>⟧.data_of v s.human)) b
         → LowersTo s (⟦<Sorted<K> as Serialize>⟧.data_of v s.human) (λ m. depth m < room)

@@ -1,10 +1,8 @@
 //! Enums of many variants, some of which hold types of another crate, whose implementations and proofs tools/derive.py wrote.
 #![tactic(auto)]
 
-mod flags;
 mod ports;
 mod signals;
 
-pub use flags::Flag;
 pub use ports::Entry;
 pub use signals::Signal;

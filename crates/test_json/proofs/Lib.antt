@@ -1,3 +1,2 @@
 pub mod JsonLevels
 pub mod DirLevels
-pub mod MenuLevels

@@ -1,15 +1,15 @@
 -- What the recursive type Dir is read from and written as, level by level. Written by tools/derive.py.
-use Rattle.std.proofs.Common.{◌≡◌, ◌∙◌, sym, ap, subst, ℕ, zero, suc, List, [], ◌∷◌, All, Option, None, Some, String}
+use Rattle.std.proofs.Common.{◌≡◌, ◌∙◌, sym, ap, subst, ℕ, zero, suc, List, [], ◌∷◌, All, Option, None, Some}
+use Rattle.std.specs.Char.{IsScalar}
 use Rattle.std.specs.Int.{w64}
-use Rattle.std.specs.String.{string_cmp}
-use Rattle.std.specs.Prelude.{codes, pos, negsuc, FitsSigned, IsUtf8, string_bytes}
-use Rattle.std.specs.declared.alloc.Global.{Global}
+use Rattle.std.specs.Ordering.{nat_cmp}
+use Rattle.std.specs.Prelude.{codes, pos, negsuc, FitsSigned}
 use Rattle.rmp_wire.specs.Msg.{Msg}
 use Rattle.rmp_decode.specs.Fields.{OfFields, Field, Absent, NoField}
 use Rattle.rmp_decode.specs.Law.{Readable}
 use Rattle.rmp_decode.specs.Maps.{ReadsEntries}
-use Rattle.rmp_decode.specs.Read.{IsSigned, IsRaw}
-use Rattle.rmp_encode.specs.Data.{Data, whole, text}
+use Rattle.rmp_decode.specs.Read.{IsSigned, IsChar}
+use Rattle.rmp_encode.specs.Data.{Data, whole, char}
 use Rattle.rmp_encode.specs.Trees.{mapping_of, in_turn, structure_of}
 use Rattle.rmp_recursive.specs.Parts.{InSteps}
 use Rattle.rmp_recursive.specs.Fields.{fields_as, fields_in, field_as, field_in}
@@ -28,7 +28,7 @@ abbrev pub DirFrom2 : (Msg → Dir → Type 0) → Dir-F Dir → List (Option Ms
 DirFrom2 reads x fs = NoField fs
 
 abbrev pub DirFrom1 : (Msg → Dir → Type 0) → Dir-F Dir → List (Option Msg) → Type 0
-DirFrom1 reads x fs = Field (λ k. ReadsEntries string_cmp (λ j q. IsRaw j (string_bytes q)) reads x.dirs.entries k) (Absent None x.dirs) (DirFrom2 reads x) fs
+DirFrom1 reads x fs = Field (λ k. ReadsEntries nat_cmp (λ j q. IsChar j q) reads x.dirs.entries k) (Absent None x.dirs) (DirFrom2 reads x) fs
 
 abbrev pub DirFrom0 : (Msg → Dir → Type 0) → Dir-F Dir → List (Option Msg) → Type 0
 DirFrom0 reads x fs = Field (λ k. IsSigned (negsuc 9223372036854775807) (pos 9223372036854775807) k x.size) (Absent None x.size) (DirFrom1 reads x) fs
@@ -52,7 +52,7 @@ DirRead m v = OfFields dir_names (λ fs. DirFields IsDir fs v) m
 
 abbrev pub dir_level : Dir-F (Option Data) → Option Data
 dir_level v = structure_of ((codes "size", Some (whole v.size))
-    ∷ ((codes "dirs", mapping_of (in_turn (λ (q : String Global). Some (text (string_bytes q))) (λ x. x) v.dirs.entries)) ∷ []))
+    ∷ ((codes "dirs", mapping_of (in_turn (λ (q : ℕ). Some (char q)) (λ x. x) v.dirs.entries)) ∷ []))
 
 abbrev pub dir_data : Dir → Option Data
 dir_data = fold-Dir (Option Data) dir_level
@@ -60,7 +60,7 @@ dir_data = fold-Dir (Option Data) dir_level
 -- ---- what is known of a value
 
 abbrev pub dir_layer_fits : (X : Type 0) → (X → Dir) → (X → Type 0) → Dir-F X → Type 0
-dir_layer_fits X at fits v = (FitsSigned w64 v.size) × (EntriesFit string_cmp (λ (q : String Global). IsUtf8 (string_bytes q)) fits v.dirs.entries)
+dir_layer_fits X at fits v = (FitsSigned w64 v.size) × (EntriesFit nat_cmp (λ (q : ℕ). IsScalar q) fits v.dirs.entries)
 
 abbrev pub dir_fits : Dir → Type 0
 dir_fits = rec-Dir (Type 0) dir_layer_fits
@@ -73,10 +73,9 @@ dir_as2 P Q f v fs h = h
 
 dir_as1 : (P Q : Msg → Dir → Type 0) → ((m : Msg) (v : Dir) → P m v → Q m v) → (v : Dir) (fs : List (Option Msg)) → DirFrom1 P (out-Dir v) fs
     → DirFrom1 Q (out-Dir v) fs
-dir_as1 P Q f v = field_as (λ k. ReadsEntries string_cmp (λ j q. IsRaw j (string_bytes q)) P (out-Dir v).dirs.entries k)
-    (λ k. ReadsEntries string_cmp (λ j q. IsRaw j (string_bytes q)) Q (out-Dir v).dirs.entries k) (Absent None (out-Dir v).dirs) (DirFrom2 P (out-Dir v))
-    (DirFrom2 Q (out-Dir v)) (λ m h. map_as string_cmp (λ (j : Msg) (q : String Global). IsRaw j (string_bytes q)) P Q f m (out-Dir v).dirs.entries h)
-    (dir_as2 P Q f v)
+dir_as1 P Q f v = field_as (λ k. ReadsEntries nat_cmp (λ j q. IsChar j q) P (out-Dir v).dirs.entries k)
+    (λ k. ReadsEntries nat_cmp (λ j q. IsChar j q) Q (out-Dir v).dirs.entries k) (Absent None (out-Dir v).dirs) (DirFrom2 P (out-Dir v))
+    (DirFrom2 Q (out-Dir v)) (λ m h. map_as nat_cmp (λ (j : Msg) (q : ℕ). IsChar j q) P Q f m (out-Dir v).dirs.entries h) (dir_as2 P Q f v)
 
 dir_as0 : (P Q : Msg → Dir → Type 0) → ((m : Msg) (v : Dir) → P m v → Q m v) → (v : Dir) (fs : List (Option Msg)) → DirFrom0 P (out-Dir v) fs
     → DirFrom0 Q (out-Dir v) fs
@@ -93,11 +92,11 @@ dir_in2 : (v : Dir) (fs : List (Option Msg)) → DirFrom2 IsDir (out-Dir v) fs �
 dir_in2 v fs h = (zero, h)
 
 dir_in1 : (v : Dir) (fs : List (Option Msg)) → DirFrom1 IsDir (out-Dir v) fs → (n : ℕ) × DirFrom1 (DirIn n) (out-Dir v) fs
-dir_in1 v = field_in (Absent None (out-Dir v).dirs) (λ k. ReadsEntries string_cmp (λ j q. IsRaw j (string_bytes q)) IsDir (out-Dir v).dirs.entries k)
-    (λ i. (λ k. ReadsEntries string_cmp (λ j q. IsRaw j (string_bytes q)) (DirIn i) (out-Dir v).dirs.entries k)) (DirFrom2 IsDir (out-Dir v))
-    (λ i. DirFrom2 (DirIn i) (out-Dir v)) (λ i. (λ m h. map_as string_cmp (λ (j : Msg) (q : String Global). IsRaw j (string_bytes q)) (DirIn i)
-    (DirIn (suc i)) (dir_up i) m (out-Dir v).dirs.entries h)) (λ i. dir_as2 (DirIn i) (DirIn (suc i)) (dir_up i) v)
-    (λ m h. map_in string_cmp (λ (j : Msg) (q : String Global). IsRaw j (string_bytes q)) DirIn dir_up m (out-Dir v).dirs.entries h) (dir_in2 v)
+dir_in1 v = field_in (Absent None (out-Dir v).dirs) (λ k. ReadsEntries nat_cmp (λ j q. IsChar j q) IsDir (out-Dir v).dirs.entries k)
+    (λ i. (λ k. ReadsEntries nat_cmp (λ j q. IsChar j q) (DirIn i) (out-Dir v).dirs.entries k)) (DirFrom2 IsDir (out-Dir v))
+    (λ i. DirFrom2 (DirIn i) (out-Dir v)) (λ i. (λ m h. map_as nat_cmp (λ (j : Msg) (q : ℕ). IsChar j q) (DirIn i) (DirIn (suc i)) (dir_up i) m
+    (out-Dir v).dirs.entries h)) (λ i. dir_as2 (DirIn i) (DirIn (suc i)) (dir_up i) v)
+    (λ m h. map_in nat_cmp (λ (j : Msg) (q : ℕ). IsChar j q) DirIn dir_up m (out-Dir v).dirs.entries h) (dir_in2 v)
 
 dir_in0 : (v : Dir) (fs : List (Option Msg)) → DirFrom0 IsDir (out-Dir v) fs → (n : ℕ) × DirFrom0 (DirIn n) (out-Dir v) fs
 dir_in0 v = field_in (Absent None (out-Dir v).size) (λ k. IsSigned (negsuc 9223372036854775807) (pos 9223372036854775807) k (out-Dir v).size)
@@ -120,7 +119,7 @@ dir_read m (v, h) = (v, dir_out m v h)
 
 -- P holds of the parts
 abbrev pub DirParts : (Dir → Type 0) → Dir-F Dir → Type 0
-DirParts P x = (All (λ (e : String Global × Dir). P e.1) x.dirs.entries)
+DirParts P x = (All (λ (e : ℕ × Dir). P e.1) x.dirs.entries)
 
 dir_parts_hold : {B : Type 0} (P : Dir → Type 0) (first : B → Dir) → ((b : B) → P (first b)) → (y : Dir-F B) → DirParts P (map-Dir B Dir first y)
 dir_parts_hold P first h y = entries_hold first P h y.dirs.entries
@@ -132,7 +131,7 @@ dir_induction P step =
 
 dir_through : (X : Type 0) (at : X → Dir) (k : Dir → Type 0) (x : Dir-F X)
     → dir_layer_fits X at (λ p. k (at p)) x ≡ dir_layer_fits Dir (λ y. y) k (map-Dir X Dir at x)
-dir_through X at k x = λ i. (FitsSigned w64 x.size) × (entries_through at string_cmp (λ (q : String Global). IsUtf8 (string_bytes q)) k x.dirs.entries i)
+dir_through X at k x = λ i. (FitsSigned w64 x.size) × (entries_through at nat_cmp (λ (q : ℕ). IsScalar q) k x.dirs.entries i)
 
 abbrev pub DirFits : Dir-F Dir → Type 0
 DirFits x = dir_layer_fits Dir (λ y. y) dir_fits x
@@ -155,9 +154,8 @@ dir_is_at v x e = dir_is v ∙ ap (λ z. dir_level (map-Dir Dir (Option Data) di
 -- ---- what it is written as, by what its parts are
 
 abbrev pub dir_own : Dir-F Dir → Option Data
-dir_own x = structure_of ((codes "size", Some (whole x.size))
-    ∷ ((codes "dirs", mapping_of (in_turn (λ (q : String Global). Some (text (string_bytes q))) dir_data x.dirs.entries)) ∷ []))
+dir_own x = structure_of ((codes "size", Some (whole x.size)) ∷ ((codes "dirs", mapping_of (in_turn (λ (q : ℕ). Some (char q)) dir_data x.dirs.entries)) ∷ []))
 
 pub dir_is_own : (v : Dir) → dir_data v ≡ dir_own (out-Dir v)
 dir_is_own v = dir_is v ∙ (λ i. structure_of ((codes "size", Some (whole (out-Dir v).size))
-    ∷ ((codes "dirs", mapping_of (turns_mapped (λ (q : String Global). Some (text (string_bytes q))) dir_data (out-Dir v).dirs.entries i)) ∷ [])))
+    ∷ ((codes "dirs", mapping_of (turns_mapped (λ (q : ℕ). Some (char q)) dir_data (out-Dir v).dirs.entries i)) ∷ [])))

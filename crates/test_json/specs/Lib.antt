@@ -2,5 +2,3 @@ pub mod JsonLevels
 pub mod JsonRounds
 pub mod DirLevels
 pub mod DirRounds
-pub mod MenuLevels
-pub mod MenuRounds

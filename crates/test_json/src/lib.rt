@@ -1,8 +1,8 @@
-//! A type that leads back to itself through lists and maps, as JSON does. It is read as it was written.
+//! Types that lead back to themselves through lists and maps, as JSON does. They are read as they were written.
 #![tactic(auto)]
 
 mod dirs;
 mod json;
 
-pub use dirs::{Dir, Menu};
+pub use dirs::Dir;
 pub use json::Json;

@@ -1,10 +1,8 @@
-//! Structs and an enum of mixed fields, some of which types of other crates hold, whose implementations and proofs tools/derive.py wrote.
+//! A struct and an enum of mixed fields, which types of other crates hold, and types of which a half is written by hand.
 #![tactic(auto)]
 
 mod halves;
 mod mixed;
-mod papers;
 
 pub use halves::{Buoy, Coast, Light};
-pub use mixed::{Course, Spot, Voyage};
-pub use papers::{Chart, Papers};
+pub use mixed::{Course, Spot};

@@ -1,8 +1,7 @@
-//! A struct of twelve fields of as many kinds, among them each that is read in its own way, and an enum whose variants are as mixed.
+//! A struct, and an enum whose variants are of each kind, whose implementations tools/derive.py writes.
 mod derived;
 
-use rmp_wire::{ByteBuf, F64Bits};
-use std::collections::BTreeMap;
+use rmp_wire::F64Bits;
 
 /// How a ship sails.
 #[derive(Drop)]
@@ -18,21 +17,4 @@ pub enum Course {
 pub struct Spot {
     pub north: i32,
     pub name: Option<char>,
-}
-
-/// A ship's log.
-#[derive(Drop)]
-pub struct Voyage {
-    pub ship: String,
-    pub course: Course,
-    pub crew: Vec<(u8, String)>,
-    pub seal: u128,
-    pub nothing: (),
-    pub flag: char,
-    pub spot: Spot,
-    pub cargo: BTreeMap<String, u64>,
-    pub depths: [u16; 3],
-    pub last: Option<Spot>,
-    pub chart: ByteBuf,
-    pub pair: (i64, Option<bool>),
 }

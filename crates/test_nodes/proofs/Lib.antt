@@ -1,1 +1,4 @@
 pub mod RoseLevels
+pub mod OwnListLevels
+pub mod FrameLevels
+pub mod DocLevels

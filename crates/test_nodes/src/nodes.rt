@@ -1,4 +1,4 @@
-//! A struct that contains itself, whose implementations tools/derive.py writes.
+//! A struct that contains itself, whose implementation tools/derive.py writes.
 mod derived;
 
 /// A node with the nodes below it.

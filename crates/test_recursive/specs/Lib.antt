@@ -4,14 +4,7 @@ pub mod TreeLevels
 pub mod TreeRounds
 pub mod TermLevels
 pub mod TermRounds
-pub mod FormulaLevels
-pub mod FormulaRounds
-pub mod RuleLevels
-pub mod RuleRounds
 pub mod OrderLeaf
+pub mod SpanLeaf
 pub mod TaskLevels
 pub mod TaskRounds
-pub mod MoodLeaf
-pub mod SpanLeaf
-pub mod PostLevels
-pub mod PostRounds

@@ -14,10 +14,10 @@ use Rattle.test_recursive.specs.declared.tasks.Order.{Order}
 use Rattle.test_recursive.specs.declared.tasks.Order.TheVariants as the_order
 
 abbrev pub order_names : List (List ℕ)
-order_names = codes "Together" ∷ (codes "InTurn" ∷ [])
+order_names = codes "Together" ∷ (codes "one-by-one" ∷ [])
 
 abbrev pub order_data : Order → Option Data
-order_data v = elim v [ the_order.Together ↦ Some (unit_variant (codes "Together")) | the_order.InTurn ↦ Some (unit_variant (codes "InTurn")) ]
+order_data v = elim v [ the_order.Together ↦ Some (unit_variant (codes "Together")) | the_order.InTurn ↦ Some (unit_variant (codes "one-by-one")) ]
 
 abbrev pub order_fits : Order → Type 0
 order_fits v = elim v [ the_order.Together ↦ ⊤ | the_order.InTurn ↦ ⊤ ]
@@ -32,11 +32,11 @@ order_some the_order.InTurn = refl
 module _ (s : Settings) where
   pub order_other : (v : Order) → tree_of s (order_data v) ≢ Some nil
   order_other the_order.Together = bare_other s (codes "Together")
-  order_other the_order.InTurn = bare_other s (codes "InTurn")
+  order_other the_order.InTurn = bare_other s (codes "one-by-one")
 
   pub order_row : (v : Order) → order_fits v → LowersTo s (order_data v) (λ m. IsOrder m v)
   order_row the_order.Together fits = bare_row s order_names (codes "Together") 0 refl _ (refl, tt)
-  order_row the_order.InTurn fits = bare_row s order_names (codes "InTurn") 1 refl _ (refl, tt)
+  order_row the_order.InTurn fits = bare_row s order_names (codes "one-by-one") 1 refl _ (refl, tt)
 
   pub order_only : (v : Order) → LowersTo s (order_data v) (λ m. (w : Order) → IsOrder m w → v ≡ w)
   order_only the_order.Together =
@@ -45,7 +45,7 @@ module _ (s : Settings) where
       (bare_row s order_names (codes "Together") 0 refl (AtPlace 0 AnyContent) (refl, tt))
       (λ m q w r. variant_both order_names 0 AnyContent _ _ m q r (λ c a b. sym b.0))
   order_only the_order.InTurn =
-      lowers_then s (Some (unit_variant (codes "InTurn"))) (OfVariant order_names (AtPlace 1 AnyContent)) (λ m. (w : Order) → IsOrder m w
+      lowers_then s (Some (unit_variant (codes "one-by-one"))) (OfVariant order_names (AtPlace 1 AnyContent)) (λ m. (w : Order) → IsOrder m w
       → the_order.InTurn ≡ w)
-      (bare_row s order_names (codes "InTurn") 1 refl (AtPlace 1 AnyContent) (refl, tt))
+      (bare_row s order_names (codes "one-by-one") 1 refl (AtPlace 1 AnyContent) (refl, tt))
       (λ m q w r. variant_both order_names 1 AnyContent _ _ m q r (λ c a b. sym b.0))

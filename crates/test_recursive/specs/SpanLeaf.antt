@@ -16,63 +16,63 @@ use Rattle.rmp_round_trip.specs.RoundTrip.{AlikeOption, LowersTo, Only}
 use Rattle.rmp_round_trip.specs.Rounds.{option_some, option_row}
 use Rattle.rmp_round_trip.specs.StructRounds.{structure_all, structure_row, structure_other, fields_none, fields_cons}
 use Rattle.rmp_recursive.specs.Leaves.{option_alike_by}
-use Rattle.test_recursive.specs.declared.posts.Span.{Span}
+use Rattle.test_recursive.specs.declared.tasks.Span.{Span}
 
 abbrev pub span_names : List (List ℕ)
-span_names = codes "open" ∷ (codes "close" ∷ [])
+span_names = codes "first" ∷ (codes "last" ∷ [])
 
 abbrev pub span_data : Span → Option Data
-span_data v = structure_of ((codes "open", Some (whole (pos v.open))) ∷ ((codes "close", option_of (λ (q : ℕ). Some (whole (pos q))) v.close) ∷ []))
+span_data v = structure_of ((codes "first", Some (whole (pos v.first))) ∷ ((codes "last", option_of (λ (q : ℕ). Some (whole (pos q))) v.last) ∷ []))
 
 abbrev pub span_fits : Span → Type 0
-span_fits v = (v.open < 2 ^ 32) × (IfSome v.close (λ (q : ℕ). q < 2 ^ 32))
+span_fits v = (v.first < 2 ^ 32) × (IfSome v.last (λ (q : ℕ). q < 2 ^ 32))
 
 abbrev pub IsSpan : Msg → Span → Type 0
-IsSpan m v = OfFields span_names (Field (λ j. IsUnsigned 4294967295 j v.open) (Absent None v.open)
-    (Field (λ j. IsOption (λ j q. IsUnsigned 4294967295 j q) j v.close) (Absent (Some None) v.close) NoField)) m
+IsSpan m v = OfFields span_names (Field (λ j. IsUnsigned 4294967295 j v.first) (Absent None v.first)
+    (Field (λ j. IsOption (λ j q. IsUnsigned 4294967295 j q) j v.last) (Absent (Some None) v.last) NoField)) m
 
 pub span_some : (v : Span) → IsSome (span_data v)
-span_some v = structure_all ((codes "open", Some (whole (pos v.open))) ∷ ((codes "close", option_of (λ (q : ℕ). Some (whole (pos q))) v.close) ∷ []))
-    (refl, ((option_some (λ (q : ℕ). Some (whole (pos q))) (λ (q : ℕ). refl) v.close), tt))
+span_some v = structure_all ((codes "first", Some (whole (pos v.first))) ∷ ((codes "last", option_of (λ (q : ℕ). Some (whole (pos q))) v.last) ∷ []))
+    (refl, ((option_some (λ (q : ℕ). Some (whole (pos q))) (λ (q : ℕ). refl) v.last), tt))
 
 -- values of the same content are written alike
 abbrev pub SameSpan : Span → Span → Type 0
-SameSpan v w = (v.open ≡ w.open) × (AlikeOption (λ (q r : ℕ). q ≡ r) v.close w.close)
+SameSpan v w = (v.first ≡ w.first) × (AlikeOption (λ (q r : ℕ). q ≡ r) v.last w.last)
 
 pub span_alike : (v w : Span) → SameSpan v w → span_data v ≡ span_data w
-span_alike v w e = λ t. structure_of ((codes "open", (ap (λ n. Some (whole (pos n))) e.0) t)
+span_alike v w e = λ t. structure_of ((codes "first", (ap (λ n. Some (whole (pos n))) e.0) t)
     ∷ ((
-      codes "close",
-      (option_alike_by (λ (q : ℕ). Some (whole (pos q))) (λ (q r : ℕ). q ≡ r) (λ q r e. ap (λ n. Some (whole (pos n))) e) v.close w.close
-          e.1) t,
+      codes "last",
+      (option_alike_by (λ (q : ℕ). Some (whole (pos q))) (λ (q r : ℕ). q ≡ r) (λ q r e. ap (λ n. Some (whole (pos n))) e) v.last w.last e.1)
+          t,
     ) ∷ []))
 
 module _ (s : Settings) where
   pub span_other : (v : Span) → tree_of s (span_data v) ≢ Some nil
-  span_other v = structure_other s ((codes "open", Some (whole (pos v.open))) ∷ ((codes "close", option_of (λ (q : ℕ). Some (whole (pos q))) v.close) ∷ []))
+  span_other v = structure_other s ((codes "first", Some (whole (pos v.first))) ∷ ((codes "last", option_of (λ (q : ℕ). Some (whole (pos q))) v.last) ∷ []))
 
   pub span_row : (v : Span) → span_fits v → LowersTo s (span_data v) (λ m. IsSpan m v)
-  span_row v fit = structure_row s span_names ((codes "open", Some (whole (pos v.open)))
-      ∷ ((codes "close", option_of (λ (q : ℕ). Some (whole (pos q))) v.close) ∷ [])) _ refl
-      (fields_cons s (codes "open") _ _ _ (λ j. IsUnsigned 4294967295 j v.open) (Absent None v.open) _ (unsigned_row_32 s v.open fit.0)
-      (fields_cons s (codes "close") _ _ _ (λ j. IsOption (λ j q. IsUnsigned 4294967295 j q) j v.close) (Absent (Some None) v.close) _
+  span_row v fit = structure_row s span_names ((codes "first", Some (whole (pos v.first)))
+      ∷ ((codes "last", option_of (λ (q : ℕ). Some (whole (pos q))) v.last) ∷ [])) _ refl
+      (fields_cons s (codes "first") _ _ _ (λ j. IsUnsigned 4294967295 j v.first) (Absent None v.first) _ (unsigned_row_32 s v.first fit.0)
+      (fields_cons s (codes "last") _ _ _ (λ j. IsOption (λ j q. IsUnsigned 4294967295 j q) j v.last) (Absent (Some None) v.last) _
       (option_row s (λ (q : ℕ). Some (whole (pos q))) (λ (q : ℕ). q < 2 ^ 32) (λ (j : Msg) (q : ℕ). IsUnsigned 4294967295 j q)
-      (λ (q : ℕ). pos_other s q) (λ q u. unsigned_row_32 s q u) v.close fit.1) (fields_none s)))
+      (λ (q : ℕ). pos_other s q) (λ q u. unsigned_row_32 s q u) v.last fit.1) (fields_none s)))
 
   pub span_only : (v : Span) → span_fits v → LowersTo s (span_data v) (λ m. (w : Span) → IsSpan m w → SameSpan v w)
   span_only v fit = lowers_then s (span_data v) _ (λ m. (w : Span) → IsSpan m w → SameSpan v w)
-      (structure_row s span_names ((codes "open", Some (whole (pos v.open))) ∷ ((codes "close", option_of (λ (q : ℕ). Some (whole (pos q))) v.close) ∷ []))
-      (Field (λ k. Only (λ (j : Msg) (q : ℕ). IsUnsigned 4294967295 j q) (λ (q r : ℕ). q ≡ r) k v.open) ⊥
+      (structure_row s span_names ((codes "first", Some (whole (pos v.first))) ∷ ((codes "last", option_of (λ (q : ℕ). Some (whole (pos q))) v.last) ∷ []))
+      (Field (λ k. Only (λ (j : Msg) (q : ℕ). IsUnsigned 4294967295 j q) (λ (q r : ℕ). q ≡ r) k v.first) ⊥
       (Field (λ k. Only (λ (j : Msg) (q : Option (ℕ)). IsOption (λ j q. IsUnsigned 4294967295 j q) j q)
-      (λ (q r : Option (ℕ)). AlikeOption (λ (q r : ℕ). q ≡ r) q r) k v.close) ⊥ NoField)) refl
-      (fields_cons s (codes "open") _ _ _ (λ k. Only (λ (j : Msg) (q : ℕ). IsUnsigned 4294967295 j q) (λ (q r : ℕ). q ≡ r) k v.open) ⊥ _
-      (unsigned_only s 4294967295 v.open) (fields_cons s (codes "close") _ _ _
+      (λ (q r : Option (ℕ)). AlikeOption (λ (q r : ℕ). q ≡ r) q r) k v.last) ⊥ NoField)) refl
+      (fields_cons s (codes "first") _ _ _ (λ k. Only (λ (j : Msg) (q : ℕ). IsUnsigned 4294967295 j q) (λ (q r : ℕ). q ≡ r) k v.first) ⊥ _
+      (unsigned_only s 4294967295 v.first) (fields_cons s (codes "last") _ _ _
       (λ k. Only (λ (j : Msg) (q : Option (ℕ)). IsOption (λ j q. IsUnsigned 4294967295 j q) j q)
-      (λ (q r : Option (ℕ)). AlikeOption (λ (q r : ℕ). q ≡ r) q r) k v.close) ⊥ _
-      (option_only s (option_of (λ (q : ℕ). Some (whole (pos q))) v.close) (λ (j : Msg) (q : ℕ). IsUnsigned 4294967295 j q) (λ (q r : ℕ). q ≡ r) v.close
+      (λ (q r : Option (ℕ)). AlikeOption (λ (q r : ℕ). q ≡ r) q r) k v.last) ⊥ _
+      (option_only s (option_of (λ (q : ℕ). Some (whole (pos q))) v.last) (λ (j : Msg) (q : ℕ). IsUnsigned 4294967295 j q) (λ (q r : ℕ). q ≡ r) v.last
       (option_row s (λ (q : ℕ). Some (whole (pos q))) (λ (q : ℕ). q < 2 ^ 32) (Only (λ (j : Msg) (q : ℕ). IsUnsigned 4294967295 j q) (λ (q r : ℕ). q ≡ r))
-      (λ (q : ℕ). pos_other s q) (λ q u. unsigned_only s 4294967295 q) v.close fit.1)) (fields_none s))))
+      (λ (q : ℕ). pos_other s q) (λ q u. unsigned_only s 4294967295 q) v.last fit.1)) (fields_none s))))
       (λ m q w r. fields_both span_names _ _ _ m q r (λ fs i j.
-      let x = (field_only (λ (j : Msg) (q : ℕ). IsUnsigned 4294967295 j q) (λ (q r : ℕ). q ≡ r) v.open w.open _ _ _ _
+      let x = (field_only (λ (j : Msg) (q : ℕ). IsUnsigned 4294967295 j q) (λ (q r : ℕ). q ≡ r) v.first w.first _ _ _ _
       (last_field (λ (j : Msg) (q : Option (ℕ)). IsOption (λ j q. IsUnsigned 4294967295 j q) j q)
-      (λ (q r : Option (ℕ)). AlikeOption (λ (q r : ℕ). q ≡ r) q r) v.close w.close _)) fs i j in (x.0, x.1)))
+      (λ (q r : Option (ℕ)). AlikeOption (λ (q r : ℕ). q ≡ r) q r) v.last w.last _)) fs i j in (x.0, x.1)))

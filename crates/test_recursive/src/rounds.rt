@@ -12,6 +12,8 @@ impl<'de, R: ReadSlice<'de>> RoundTrip<'de, R> for Nested {
 
     ghost same = { SameNested };
 
+    ghost alike = { λ human v w h. h };
+
     ghost only = { λ s v fits. nested_only s v };
 }
 

@@ -29,31 +29,3 @@ pub enum Term {
     Next(Option<Box<Term>>),
     Sum(Vec<Term>),
 }
-
-/// A formula of a table, whose variants hold several values: those of a cell, and what is made of other formulas.
-#[derive(Drop)]
-pub enum Formula {
-    Cell(u16, u16),
-    Shift(i32, Box<Formula>),
-    Call(String, Vec<Formula>),
-    If(Box<Formula>, Box<Formula>, Option<Box<Formula>>),
-}
-
-/// A rule of a filter, whose variants have fields with names: a size, and what is made of other rules.
-#[derive(Drop)]
-pub enum Rule {
-    Always,
-    Size(u64),
-    Not {
-        rule: Box<Rule>,
-    },
-    // derive: rename_all = "camelCase"
-    Cond {
-        first_test: Box<Rule>,
-        otherwise: Option<Box<Rule>>,
-    },
-    Range {
-        from: i32,
-        to: i32,
-    },
-}

@@ -1,4 +1,4 @@
-//! Sixteen mixed elements: those of a tuple struct, and those of a variant beside one of nine.
+//! Nine fields or elements, and sixteen elements: of a struct, of a tuple struct, and of variants.
 mod derived;
 
 use rmp_wire::{ByteBuf, F64Bits};
@@ -49,4 +49,18 @@ pub enum Line {
         (),
         Option<Spot>,
     ),
+}
+
+/// A dog's papers, of more fields than are handed over at once.
+#[derive(Drop)]
+pub struct Papers {
+    pub number: u64,
+    pub name: String,
+    pub born: u16,
+    pub chip: Option<u64>,
+    pub mother: Option<u64>,
+    pub father: Option<u64>,
+    pub weight: u8,
+    pub height: i8,
+    pub vaccinated: bool,
 }

@@ -1,9 +1,30 @@
-//! A struct of thirty-two fields, which are read as two structs of sixteen.
+//! A struct of sixteen fields, and one of thirty-two, which are read as two structs of sixteen.
 mod derived;
 
 use rmp_wire::{ByteBuf, F64Bits};
 use std::collections::{BTreeMap, BTreeSet};
 use test_mixed::{Course, Spot};
+
+/// A vet's chart, of as many fields as a struct may have.
+#[derive(Drop)]
+pub struct Chart {
+    pub number: u64,
+    pub name: String,
+    pub born: u16,
+    pub weight: u8,
+    pub height: i8,
+    pub fever: i16,
+    pub offset: i32,
+    pub balance: i64,
+    pub neutered: bool,
+    pub chip: Option<u64>,
+    pub owner: Option<String>,
+    pub shots: Vec<u16>,
+    pub notes: Vec<String>,
+    pub heart: u32,
+    pub lungs: u32,
+    pub last: String,
+}
 
 /// What a surveyor says of a ship.
 #[derive(Drop)]

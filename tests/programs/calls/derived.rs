@@ -9,8 +9,7 @@ use std::io::Cursor;
 use std::test::Fail;
 use test_derived::{Counted, Dog, Four, Mixed, Newtype, Opt, Point, Two, Unit, V12};
 use test_lent::{Event, Label, Line, Piece};
-use test_mixed::{Chart, Papers};
-use test_wide::{Manifest, Survey};
+use test_wide::{Chart, Manifest, Papers, Survey};
 
 fn dog(alloc: Global, name: &str, age: u16) -> Result<Dog, Fail> {
     Ok(Dog {

@@ -1,15 +1,15 @@
-//! What recursive types whose fields are maps of themselves are written as and read from. The bytes are those of serde's derive.
+//! What a recursive type with a map of itself is written as and read from. The bytes are those of serde's derive.
 use crate::recursive::{read, reads, reads_both, refused, writes};
 use std::collections::BTreeMap;
 use std::test::Fail;
-use test_json::{Dir, Menu};
+use test_json::Dir;
 
 const DIR: &[u8] =
-    b"\x92\x01\x82\xa1a\x92\x02\x81\xa1x\x92\x03\x80\xa3bin\x92\xce\x00\x01\x11p\x80";
+    b"\x92\x01\x82\xa1a\x92\x02\x81\xa1x\x92\x03\x80\xa2\xc3\xa9\x92\xce\x00\x01\x11p\x80";
 
 const DIR_NAMED: &[u8] =
     b"\x82\xa4size\x01\xa4dirs\x82\xa1a\x82\xa4size\x02\xa4dirs\x81\xa1x\x82\xa4size\x03\xa4dirs\x80\
-    \xa3bin\x82\xa4size\xce\x00\x01\x11p\xa4dirs\x80";
+    \xa2\xc3\xa9\x82\xa4size\xce\x00\x01\x11p\xa4dirs\x80";
 
 #[test]
 fn dirs_written(rt: HostRuntime) -> Result<(), Fail> {
@@ -18,18 +18,18 @@ fn dirs_written(rt: HostRuntime) -> Result<(), Fail> {
         dirs: BTreeMap::new(rt.alloc()),
     };
     let mut inner = BTreeMap::new(rt.alloc());
-    inner.insert(String::from_str(rt.alloc(), "x")?, last)?;
+    inner.insert('x', last)?;
     let bin = Dir {
         size: 70000,
         dirs: BTreeMap::new(rt.alloc()),
     };
     let mut dirs = BTreeMap::new(rt.alloc());
-    dirs.insert(String::from_str(rt.alloc(), "bin")?, bin)?;
+    dirs.insert('\u{e9}', bin)?;
     let a = Dir {
         size: 2,
         dirs: inner,
     };
-    dirs.insert(String::from_str(rt.alloc(), "a")?, a)?;
+    dirs.insert('a', a)?;
     let dir = Dir { size: 1, dirs };
     writes(&rt, rt.alloc(), &dir, false, DIR);
     writes(&rt, rt.alloc(), &dir, true, DIR_NAMED);
@@ -55,51 +55,10 @@ fn dirs_read(rt: HostRuntime) {
     for (input, why) in [
         (b"\x92\x01\xc0".as_slice(), "invalid type"),
         (b"\x92\x01\x81\x05\x92\x01\x80", "invalid type"),
+        (b"\x92\x01\x81\xa2de\x92\x01\x80", "invalid value"),
         (b"\x81\xa4size\x01", "missing field"),
         (b"\x92\x01\x90", "invalid type"),
     ] {
         refused::<Dir>(&rt, rt.alloc(), read(rt.alloc(), 1024, input), why);
-    }
-}
-
-const MENU: &[u8] =
-    b"\x81\xa4Part\x92\xa3all\x82\xa1q\x81\xa5Entry\xcc\xc8\xa2\xc3\xa9\x81\xa4Part\x92\xa0\x80";
-
-const MENU_NAMED: &[u8] =
-    b"\x81\xa4Part\x82\xa4name\xa3all\xa5menus\x82\xa1q\x81\xa5Entry\xcc\xc8\xa2\xc3\xa9\x81\xa4Part\x82\xa4name\xa0\xa5menus\x80";
-
-#[test]
-fn menus_written(rt: HostRuntime) -> Result<(), Fail> {
-    let empty = Menu::Part {
-        name: String::new(rt.alloc()),
-        menus: BTreeMap::new(rt.alloc()),
-    };
-    let mut menus = BTreeMap::new(rt.alloc());
-    menus.insert('\u{e9}', empty)?;
-    menus.insert('q', Menu::Entry(200))?;
-    let menu = Menu::Part {
-        name: String::from_str(rt.alloc(), "all")?,
-        menus,
-    };
-    writes(&rt, rt.alloc(), &menu, false, MENU);
-    writes(&rt, rt.alloc(), &menu, true, MENU_NAMED);
-    Ok(())
-}
-
-#[test]
-fn menus_read(rt: HostRuntime) {
-    reads_both::<Menu>(&rt, rt.alloc(), MENU, MENU_NAMED);
-    let turned = b"\x81\xa4Part\x82\xa5menus\x81\xa1q\x81\xa5Entry\x01\xa4name\xa0";
-    let want = b"\x81\xa4Part\x92\xa0\x81\xa1q\x81\xa5Entry\x01";
-    reads::<Menu>(&rt, rt.alloc(), 1024, turned, false, want);
-    for (input, why) in [
-        (b"\x81\xa4Part\x81\xa4name\xa0".as_slice(), "missing field"),
-        (
-            b"\x81\xa4Part\x92\xa0\x81\xa2de\x81\xa5Entry\x01",
-            "invalid value",
-        ),
-        (b"\x81\xa4Part\x92\xa0\xa0", "invalid type"),
-    ] {
-        refused::<Menu>(&rt, rt.alloc(), read(rt.alloc(), 1024, input), why);
     }
 }

@@ -1,5 +1,5 @@
 //! What the calls of the example `example_frames` come to: peers that keep to the protocol, and hostile ones.
-use example_frames::{Refusal, Request, next_request, write_request};
+use example_frames::{Refusal, Request, explain_request, next_request, write_request};
 use rmp_serde::Value;
 use rmp_serde::decode::{Error, Text};
 use rmp_wire::Marker;
@@ -136,5 +136,33 @@ fn nested_lists(rt: HostRuntime) -> Result<(), Fail> {
             Err(_) => return Err(Fail::from("another refusal")),
         }
     }
+    Ok(())
+}
+
+#[test]
+fn what_is_no_request_is_explained(rt: HostRuntime) -> Result<(), Fail> {
+    let alloc = rt.alloc();
+    // {"Put": ["a", nil]}
+    let frame = b"\x00\x00\x00\x09\x81\xa3Put\x92\xa1a\xc0";
+    let refused = next_request(alloc, frame, LIMIT);
+    assert!(rt;
+        matches!(
+            refused,
+            Err(Refusal::NotRequest(Error::TypeMismatch(Marker::FixStr(1))))
+        )
+    );
+    let content = frame.get(4..).unwrap_or(b"");
+    let Some(why) = explain_request(alloc, content) else {
+        return Err(Fail::from("a request"));
+    };
+    let line = format!(in alloc; "{why}")?;
+    assert_eq!(rt;
+        line.as_str(),
+        "wrong msgpack marker FixStr(1) at .Put[0] (byte 6): a text of 1 byte"
+    );
+    // {"Get": sixteen nested lists}, which is refused at the one that nests too deep
+    let deep = b"\x81\xa3Get\x91\x91\x91\x91\x91\x91\x91\x91\x91\x91\x91\x91\x91\x91\x91\x91";
+    assert!(rt; explain_request(alloc, deep).is_some());
+    assert!(rt; explain_request(alloc, b"\xa4Ping").is_none());
     Ok(())
 }

@@ -12,9 +12,9 @@ mod frames;
 #[cfg(test)]
 mod lines;
 #[cfg(test)]
-mod notes;
+mod nodes;
 #[cfg(test)]
-mod posts;
+mod notes;
 #[cfg(test)]
 mod reads;
 #[cfg(test)]
@@ -23,6 +23,8 @@ mod records;
 mod recursive;
 #[cfg(test)]
 mod streams;
+#[cfg(test)]
+mod tasks;
 #[cfg(test)]
 mod values;
 #[cfg(test)]

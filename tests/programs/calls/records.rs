@@ -36,7 +36,10 @@ fn what_is_no_record_is_explained(rt: HostRuntime) -> Result<(), Fail> {
         return Err(Fail::from("a record"));
     };
     let line = format!(in alloc; "{broken}")?;
-    assert_eq!(rt; line.as_str(), "wrong msgpack marker Reserved at [1] (byte 2)");
+    assert_eq!(rt;
+        line.as_str(),
+        "wrong msgpack marker Reserved at [1] (byte 2)"
+    );
     // {"note": "a", "by": a text of two bytes, of which one is there}
     let Some(cut) = explain_tail(alloc, b"\x82\xa4note\xa1a\xa2by\xa2x") else {
         return Err(Fail::from("a record"));

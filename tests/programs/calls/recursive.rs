@@ -8,12 +8,9 @@ use std::process::Abort;
 use std::test::Fail;
 use test_json::Json;
 use test_nodes::Rose;
-use test_recursive::{Formula, Nested, Rule, Term, Tree};
+use test_recursive::{Nested, Term, Tree};
 
 const TREE: &[u8] = b"\x81\xa4Node\x92\x81\xa4Leaf\x01\x81\xa4Node\x90";
-
-const CHOICE: &[u8] =
-    b"\x81\xa2If\x93\x81\xa5Shift\x92\xff\x81\xa4Cell\x92\x00\x01\x81\xa4Cell\x92\x02\x03\xc0";
 
 const CHAIN: &[u8] = b"\x81\xa4Next\x81\xa4Next\xc0";
 
@@ -21,7 +18,7 @@ const LISTED: &[u8] = b"\x91\x91\x91\x90";
 
 const NAMED: &[u8] = b"\x81\xa4kids\x91\x81\xa4kids\x90";
 
-const TOO_DEEP: &str = "depth limit exceeded";
+pub(crate) const TOO_DEEP: &str = "depth limit exceeded";
 
 pub(crate) fn read<'de, T: Deserialize<'de, ReadRefReader<'de>>>(
     alloc: Global,
@@ -200,49 +197,6 @@ fn terms(rt: HostRuntime) {
 }
 
 #[test]
-fn formulas_written(rt: HostRuntime) -> Result<(), Fail> {
-    let cell = Box::new(rt.alloc(), Formula::Cell(0, 1))?;
-    let first = Box::new(rt.alloc(), Formula::Shift(-1, cell))?;
-    let second = Box::new(rt.alloc(), Formula::Cell(2, 3))?;
-    let choice = Formula::If(first, second, None);
-    writes(&rt, rt.alloc(), &choice, false, CHOICE);
-    Ok(())
-}
-
-#[test]
-fn formulas(rt: HostRuntime) {
-    let call =
-        b"\x81\xa4Call\x92\xa3max\x92\x81\xa4Cell\x92\x01\x02\x81\xa4Cell\x92\x03\x04".as_slice();
-    let other =
-        b"\x81\xa2If\x93\x81\xa4Cell\x92\x00\x01\x81\xa4Cell\x92\x00\x02\x81\xa5Shift\x92\xe0\x81\xa4Cell\x92\x00\x03".as_slice();
-    for written in [CHOICE, call, other] {
-        reads::<Formula>(&rt, rt.alloc(), 7, written, false, written);
-        refused::<Formula>(&rt, rt.alloc(), read(rt.alloc(), 2, written), TOO_DEEP);
-        assert!(rt; strictly::<Formula>(rt.alloc(), written).is_ok());
-    }
-    let wide =
-        b"\xde\x00\x01\x03\xdc\x00\x03\x81\x01\xdd\x00\x00\x00\x02\xd0\xff\x81\x00\xc4\x02\x00\x01\x81\x00\x92\xcc\x02\x03\xc0";
-    reads::<Formula>(&rt, rt.alloc(), 1024, wide, false, CHOICE);
-    for (input, why) in [
-        (b"\xa2If".as_slice(), "invalid type"),
-        (b"\x81\xa2If\xc0", "invalid type"),
-        (b"\x81\xa2If\x91\x81\xa4Cell\x92\x00\x01", "invalid length"),
-        (b"\x81\xa2If\x90", "invalid length"),
-        (
-            b"\x81\xa5Shift\x93\x01\x81\xa4Cell\x92\x00\x01\x02",
-            "array had incorrect length, expected 2",
-        ),
-        (
-            b"\x81\xa5Shift\x92\xc0\x81\xa4Cell\x92\x00\x01",
-            "invalid type",
-        ),
-        (b"\x81\xa4Call\x92\xa1f\x91\xa2If", "invalid type"),
-    ] {
-        refused::<Formula>(&rt, rt.alloc(), read(rt.alloc(), 1024, input), why);
-    }
-}
-
-#[test]
 fn chains_written(rt: HostRuntime) -> Result<(), Fail> {
     let next = Box::new(rt.alloc(), Term::Next(None))?;
     writes(&rt, rt.alloc(), &Term::Next(Some(next)), false, CHAIN);
@@ -299,7 +253,12 @@ fn lists(rt: HostRuntime) {
 }
 
 // So many times the first bytes, and then the last.
-fn nested(alloc: Global, each: &[u8], times: usize, last: &[u8]) -> Result<Vec<u8>, Error> {
+pub(crate) fn nested(
+    alloc: Global,
+    each: &[u8],
+    times: usize,
+    last: &[u8],
+) -> Result<Vec<u8>, Error> {
     let mut input = Vec::new(alloc);
     for _ in 0..times {
         input.extend_from_slice(each)?;
@@ -366,82 +325,4 @@ fn roses_refused(rt: HostRuntime) {
     ] {
         refused::<Rose>(&rt, rt.alloc(), read(rt.alloc(), 1024, input), why);
     }
-}
-
-const CHOSEN: &[u8] =
-    b"\x81\xa4Cond\x92\x81\xa3Not\x91\x81\xa4Size\xcd\x01\x2c\x81\xa5Range\x92\xff\xcd\x01\xf4";
-
-const CHOSEN_NAMED: &[u8] =
-    b"\x81\xa4Cond\x82\xa9firstTest\x81\xa3Not\x81\xa4rule\x81\xa4Size\xcd\x01\x2c\xa9otherwise\x81\xa5Range\x82\xa4from\xff\xa2to\xcd\x01\xf4";
-
-#[test]
-fn rules_written(rt: HostRuntime) -> Result<(), Fail> {
-    let rule = Box::new(rt.alloc(), Rule::Size(300))?;
-    let range = Box::new(rt.alloc(), Rule::Range { from: -1, to: 500 })?;
-    let chosen = Rule::Cond {
-        first_test: Box::new(rt.alloc(), Rule::Not { rule })?,
-        otherwise: Some(range),
-    };
-    writes(&rt, rt.alloc(), &chosen, false, CHOSEN);
-    writes(&rt, rt.alloc(), &chosen, true, CHOSEN_NAMED);
-    Ok(())
-}
-
-#[test]
-fn rules_read(rt: HostRuntime) {
-    reads_both::<Rule>(&rt, rt.alloc(), CHOSEN, CHOSEN_NAMED);
-    refused::<Rule>(&rt, rt.alloc(), read(rt.alloc(), 5, CHOSEN), TOO_DEEP);
-    let alone = b"\x81\xa4Cond\x92\xa6Always\xc0".as_slice();
-    let range = b"\x81\xa5Range\x92\x01\x02".as_slice();
-    let turned =
-        b"\xde\x00\x01\x03\x83\xa4more\x92\x01\x02\xa9otherwise\xc0\x00\xd9\x06Always".as_slice();
-    for (input, written) in [
-        (b"\x81\xa4Cond\x81\xa9firstTest\xa6Always".as_slice(), alone),
-        (turned, alone),
-        (b"\x81\xa5Range\x82\xa2to\x02\xa4from\x01", range),
-        (b"\x81\xa5Range\xc4\x02\x01\x02", range),
-    ] {
-        reads::<Rule>(&rt, rt.alloc(), 1024, input, false, written);
-        reads::<Rule>(&rt, rt.alloc(), 1024, written, false, written);
-        assert!(rt; strictly::<Rule>(rt.alloc(), written).is_ok());
-    }
-    refused::<Rule>(
-        &rt,
-        rt.alloc(),
-        strictly(rt.alloc(), turned),
-        "not canonical",
-    );
-}
-
-#[test]
-fn rules_refused(rt: HostRuntime) {
-    for (input, why) in [
-        (b"\xa3Not".as_slice(), "invalid type"),
-        (b"\x81\xa3Not\xa6Always", "invalid type"),
-        (b"\x81\xa3Not\xc4\x01\x09", "unknown variant"),
-        (b"\x81\xa3Not\x80", "missing field"),
-        (b"\x81\xa4Cond\x91\xa6Always", "invalid length"),
-        (
-            b"\x81\xa4Cond\x93\xa6Always\xc0\x02",
-            "array had incorrect length, expected 2",
-        ),
-        (
-            b"\x81\xa4Cond\x82\xa9firstTest\xa6Always\xa9firstTest\xa6Always",
-            "duplicate field",
-        ),
-        (b"\x81\xa4Cond\x81\xaafirst_test\xa6Always", "missing field"),
-        (b"\x81\xa5Range\x81\xa2to\x01", "missing field"),
-    ] {
-        refused::<Rule>(&rt, rt.alloc(), read(rt.alloc(), 1024, input), why);
-    }
-}
-
-// Each rule but the last is two levels deep: the map of its name, and the map or list of its fields.
-#[test]
-fn fifty_rules(rt: HostRuntime) -> Result<(), Error> {
-    let first = b"\x81\xa3Not\x91";
-    let deepest = nested(rt.alloc(), first, 50, b"\xa6Always")?;
-    reads::<Rule>(&rt, rt.alloc(), 101, &deepest, false, &deepest);
-    refused::<Rule>(&rt, rt.alloc(), read(rt.alloc(), 100, &deepest), TOO_DEEP);
-    Ok(())
 }

@@ -2,6 +2,7 @@
 mod canonical;
 mod check;
 mod example;
+mod explained;
 mod floats;
 mod found;
 mod making;

@@ -2,11 +2,10 @@
 use rmp_decode::{Error, Text, from_slice};
 use rmp_encode::{to_vec, to_vec_named};
 use rmp_wire::{F64Bits, Marker};
-use std::alloc::Global;
 use std::test::Fail;
-use test_enums::{Entry, Flag, Signal};
+use test_enums::{Entry, Signal};
 use test_mixed::{Buoy, Coast, Course, Light, Spot};
-use test_wide::{Line, Measured, Row};
+use test_wide::{Line, Row};
 
 // Each variant of `Signal` with a value, in the order of the declaration.
 const SIGNALS: [&[u8]; 30] = [
@@ -142,69 +141,6 @@ fn no_signals(rt: HostRuntime) {
     assert!(rt; matches!(&read, Err(Error::Syntax(Text::MissingField(_)))));
 }
 
-// The names of the variants of `Flag`, in the order of the declaration: each fourth has content.
-const FLAGS: [&str; 64] = [
-    "Alfa", "Bravo", "Charlie", "Delta", "Echo", "Foxtrot", "Golf", "Hotel", "India", "Juliett",
-    "Kilo", "Lima", "Mike", "November", "Oscar", "Papa", "Quebec", "Romeo", "Sierra", "Tango",
-    "Uniform", "Victor", "Whiskey", "Xray", "Yankee", "Zulu", "Zero", "One", "Two", "Three",
-    "Four", "Five", "Six", "Seven", "Eight", "Nine", "North", "East", "South", "West", "Red",
-    "Green", "Blue", "White", "Black", "Yellow", "Dawn", "Noon", "Dusk", "Night", "Spring",
-    "Summer", "Autumn", "Winter", "Rain", "Snow", "Hail", "Storm", "Calm", "Breeze", "Gale",
-    "Tide", "Reef", "Shoal",
-];
-
-// What is written of their contents, in turn.
-const CONTENTS: [&[u8]; 8] = [
-    b"\x07",
-    b"\xa1A",
-    b"\xd2\xff\xfe\xee\x90",
-    b"\xcf\x00\x00\x00\x01\x00\x00\x00\x00",
-    b"\xc3",
-    b"\xa1c",
-    b"\xd1\xff8",
-    b"\xcd\x01,",
-];
-
-fn flag_bytes(alloc: Global, place: usize, name: &str) -> Result<Vec<u8>, Fail> {
-    let mut bytes = Vec::new(alloc);
-    if place % 4 == 3 {
-        bytes.push(0x81)?;
-    }
-    bytes.push(0xa0 + name.len() as u8)?;
-    bytes.extend_from_slice(name.as_bytes())?;
-    if place % 4 == 3 {
-        bytes.extend_from_slice(CONTENTS[place / 4 % 8])?;
-    }
-    Ok(bytes)
-}
-
-#[test]
-fn sixty_four_variants(rt: HostRuntime) -> Result<(), Fail> {
-    for (place, name) in FLAGS.iter().enumerate() {
-        let bytes = flag_bytes(rt.alloc(), place, name)?;
-        let read: Result<Flag, Error> = from_slice(rt.alloc(), bytes.as_slice());
-        let Ok(flag) = read else {
-            return Err(Fail::from("a flag is refused"));
-        };
-        assert_eq!(rt; to_vec(rt.alloc(), &flag)?.as_slice(), bytes.as_slice());
-        let read: Result<Flag, Error> = from_slice(rt.alloc(), &[place as u8]);
-        assert_eq!(rt; read.is_ok(), place % 4 != 3);
-    }
-    Ok(())
-}
-
-#[test]
-fn some_of_sixty_four_variants(rt: HostRuntime) {
-    let read: Result<Flag, Error> = from_slice(rt.alloc(), b"\xa4Alfa");
-    assert!(rt; matches!(&read, Ok(Flag::Alfa)));
-    let read: Result<Flag, Error> = from_slice(rt.alloc(), b"\x3e");
-    assert!(rt; matches!(&read, Ok(Flag::Reef)));
-    let read: Result<Flag, Error> = from_slice(rt.alloc(), b"\x81\xa5Shoal\xcd\x01\x2c");
-    assert!(rt; matches!(&read, Ok(Flag::Shoal(300))));
-    let read: Result<Flag, Error> = from_slice(rt.alloc(), b"\x40");
-    assert!(rt; matches!(&read, Err(Error::Syntax(Text::UnknownVariant))));
-}
-
 #[test]
 fn defaults_in_variants(rt: HostRuntime) -> Result<(), Fail> {
     let read: Result<Entry, Error> = from_slice(rt.alloc(), b"\x81\xa7Harbour\x81\xa4name\xa1A");
@@ -272,41 +208,9 @@ fn halves_by_hand(rt: HostRuntime) -> Result<(), Fail> {
     Ok(())
 }
 
-// What a buoy measured, after the list's head.
-const MEASURED: &[u8] =
+// Twelve elements of a row, after the list's head.
+const TWELVE: &[u8] =
     b"\xcd\x01,\xa1A\xd2\xff\xfe\xee\x90\xc0\xc3\xa1c\xcb?\xf0\x00\x00\x00\x00\x00\x00\x92\x01\x02\x93\x01\x02\xcd\x01,\x92\x05\xc0\x92\x03\xa1H\xc4\x02\x01\x02";
-
-// The same in a list that says that it has so many elements, and how it is read.
-fn measured(rt: HostRuntime, count: u8) -> Result<Result<Measured, Error>, Fail> {
-    let mut bytes = Vec::new(rt.alloc());
-    bytes.push(0x90 | count)?;
-    bytes.extend_from_slice(MEASURED)?;
-    bytes.push(0xc0)?;
-    Ok(from_slice(rt.alloc(), bytes.as_slice()))
-}
-
-#[test]
-fn a_tuple_struct_of_twelve(rt: HostRuntime) -> Result<(), Fail> {
-    let Ok(read) = measured(rt, 12)? else {
-        return Err(Fail::from("twelve elements are refused"));
-    };
-    let Measured(a, b, c, d, e, f, g, h, i, spot, pair, chart) = &read;
-    assert!(rt;
-        matches!(
-            (a, c, d, e, f, g),
-            (300, -70000, None, true, 'c', F64Bits(4607182418800017408))
-        )
-    );
-    assert_eq!(rt; b.as_str(), "A");
-    assert_eq!(rt; h.as_slice(), [1, 2].as_slice());
-    assert_eq!(rt; i.as_slice(), [1, 2, 300].as_slice());
-    assert!(rt; spot.north == 5 && spot.name.is_none());
-    assert!(rt; pair.0 == 3 && pair.1.as_str() == "H");
-    assert_eq!(rt; chart.as_bytes(), b"\x01\x02".as_slice());
-    let written = to_vec(rt.alloc(), &read)?;
-    assert_eq!(rt; written.as_slice().split_first(), Some((&0x9c, MEASURED)));
-    Ok(())
-}
 
 // Four elements more.
 const MORE: &[u8] =
@@ -322,7 +226,7 @@ fn sixteen(rt: HostRuntime, before: &[u8], count: u16) -> Result<Vec<u8>, Fail> 
         bytes.extend_from_slice(b"\xdc\x00")?;
         bytes.push(count as u8)?;
     }
-    bytes.extend_from_slice(MEASURED)?;
+    bytes.extend_from_slice(TWELVE)?;
     bytes.extend_from_slice(MORE)?;
     bytes.push(0xc0)?;
     Ok(bytes)
@@ -416,12 +320,5 @@ fn a_variant_of_nine_elements(rt: HostRuntime) -> Result<(), Fail> {
         b"\x81\xa5Short\x98\x07\xa1A\xd1\xff8\xcd\x01,\xc3\x92\x01\x02\xa1c\x92\x05\xc0",
     );
     assert!(rt; matches!(read, Err(Error::Syntax(Text::InvalidLength))));
-    Ok(())
-}
-
-#[test]
-fn no_tuple_struct_of_twelve(rt: HostRuntime) -> Result<(), Fail> {
-    assert!(rt; matches!(measured(rt, 11)?, Err(Error::Syntax(Text::InvalidLength))));
-    assert!(rt; matches!(measured(rt, 13)?, Err(Error::LengthMismatch(12))));
     Ok(())
 }

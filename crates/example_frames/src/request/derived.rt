@@ -11,6 +11,7 @@ ghost use Rattle.rmp_encode.specs.Data.{unit_variant};
 ghost use Rattle.rmp_encode.specs.Refusals.{OfParts, OfSink};
 ghost use Rattle.rmp_encode.specs.Sizes.{one_of};
 ghost use Rattle.rmp_encode.specs.Trees.{newtype_variant_of, tuple_variant_of};
+ghost use Rattle.rmp_serde.specs.AlikeData.{variant_alike};
 ghost use Rattle.rmp_serde.specs.EnumEnds.{enum_inside, no_content_inside, with_content_inside};
 ghost use Rattle.rmp_serde.specs.LeafEnds.{number_inside};
 ghost use Rattle.rmp_serde.specs.LeafRounds.{unsigned_row_64};
@@ -153,6 +154,16 @@ impl<'de, R: ReadSlice<'de>> RoundTrip<'de, R> for Request {
           × ⟦<u64 as RoundTrip<'de, R>>⟧.same a1 b1
       | the_request.Put a1 a2 ↦ (b1 : _) × (b2 : _) × (w ≡ the_request.Put b1 b2)
           × ⟦<u64 as RoundTrip<'de, R>>⟧.same a1 b1 × ⟦<Value as RoundTrip<'de, R>>⟧.same a2 b2
+    ] };
+
+    ghost alike = { λ human. elim [
+      | the_request.Ping ↦ λ w h. variant_alike (λ x. ⟦<Request as Serialize>⟧.data_of x human) w the_request.Ping h
+          (λ i. Some (unit_variant (codes "Ping")))
+      | the_request.Get a1 ↦ λ w h. variant_alike (λ x. ⟦<Request as Serialize>⟧.data_of x human) w
+          (the_request.Get h.0) h.1 (λ i. newtype_variant_of (codes "Get") (⟦<u64 as Serialize>⟧.data_of (h.2 i) human))
+      | the_request.Put a1 a2 ↦ λ w h.
+          variant_alike (λ x. ⟦<Request as Serialize>⟧.data_of x human) w (the_request.Put h.0 h.1) h.2
+          (λ i. tuple_variant_of (codes "Put") ((⟦<u64 as Serialize>⟧.data_of (h.3 i) human) ∷ ((⟦<Value as Serialize>⟧.data_of (h.4 i) human) ∷ [])))
     ] };
 
     ghost only = { λ s. let names = codes "Ping" ∷ (codes "Get" ∷ (codes "Put" ∷ []))

@@ -7,6 +7,7 @@ ghost use Rattle.rmp_decode.specs.Refusing.{part_of};
 ghost use Rattle.rmp_encode.specs.Refusals.{OfParts};
 ghost use Rattle.rmp_encode.specs.Sizes.{one_of};
 ghost use Rattle.rmp_encode.specs.Trees.{structure_of};
+ghost use Rattle.rmp_serde.specs.AlikeData.{text_alike};
 ghost use Rattle.rmp_serde.specs.FieldEnds.{fields_inside};
 ghost use Rattle.rmp_serde.specs.LeafEnds.{string_inside};
 ghost use Rattle.rmp_serde.specs.LeafRounds.{string_row};
@@ -98,6 +99,9 @@ impl<'de, R: ReadSlice<'de>> RoundTrip<'de, R> for Note {
         (Absent ⟦<String as Deserialize<'de, R>>⟧.absent v.text) _ (string_row s (string_bytes v.text)) (fields_none s))) };
 
     ghost same = { λ v w. ⟦<String as RoundTrip<'de, R>>⟧.same v.title w.title × ⟦<String as RoundTrip<'de, R>>⟧.same v.text w.text };
+
+    ghost alike = { λ human v w h i. structure_of ((codes "title", (text_alike (string_bytes v.title) (string_bytes w.title) h.0 i))
+        ∷ ((codes "text", (text_alike (string_bytes v.text) (string_bytes w.text) h.1 i)) ∷ [])) };
 
     ghost only = { λ s v fits. lowers_then s _ _ (λ m. (w : _) → (⟦<Note as Deserialize<'de, R>>⟧.reads s.human R.lends) m w
         → ⟦<String as RoundTrip<'de, R>>⟧.same v.title w.title × ⟦<String as RoundTrip<'de, R>>⟧.same v.text w.text)

@@ -1,12 +1,13 @@
 //! How the types of reading.rt are written and read. Written by tools/derive.py.
 //!
 //! Sum of Reading: 850320fe.
-ghost use Rattle.rmp_decode.specs.FieldRefusing.{RefusesFields};
-ghost use Rattle.rmp_decode.specs.Fields.{OfFields, Field, Absent, NoField};
-ghost use Rattle.rmp_decode.specs.Refusing.{part_of};
-ghost use Rattle.rmp_encode.specs.Refusals.{OfParts};
-ghost use Rattle.rmp_encode.specs.Sizes.{one_of};
-ghost use Rattle.rmp_encode.specs.Trees.{structure_of};
+ghost use Rattle.rmp_serde.specs.Decoding.FieldRefusing.{RefusesFields};
+ghost use Rattle.rmp_serde.specs.Decoding.Fields.{OfFields, Field, Absent, NoField};
+ghost use Rattle.rmp_serde.specs.Decoding.Refusing.{part_of};
+ghost use Rattle.rmp_serde.specs.Encoding.Refusals.{OfParts};
+ghost use Rattle.rmp_serde.specs.Encoding.Sizes.{one_of};
+ghost use Rattle.rmp_serde.specs.Encoding.Trees.{structure_of};
+ghost use Rattle.rmp_serde.specs.AlikeData.{text_alike};
 ghost use Rattle.rmp_serde.specs.FieldEnds.{fields_inside};
 ghost use Rattle.rmp_serde.specs.LeafEnds.{number_inside, string_inside};
 ghost use Rattle.rmp_serde.specs.LeafRounds.{unsigned_row_32, signed_row_16, string_row};
@@ -20,11 +21,11 @@ ghost use Rattle.std.specs.Option.{is_none};
 ghost use Rattle.std.specs.Prelude.{◌∷◌, [], None, codes, string_bytes, pos, negsuc};
 
 use super::Reading;
-use rmp_decode::{Deserialize, Deserializer};
-use rmp_encode::{Serialize, Serializer};
+use rmp_serde::decode::{Deserialize, Deserializer};
+use rmp_serde::encode::{Serialize, Serializer};
+use rmp_serde::wire::config::SerializerConfig;
+use rmp_serde::wire::{ReadSlice, Sink};
 use rmp_serde::{EndsInside, NeverNil, RoundTrip};
-use rmp_wire::config::SerializerConfig;
-use rmp_wire::{ReadSlice, Sink};
 
 impl Serialize for Reading {
     ghost data_of = { λ v human. structure_of ((codes "second", ⟦<u32 as Serialize>⟧.data_of v.second human)
@@ -41,8 +42,8 @@ impl Serialize for Reading {
     fn serialize<W: Sink, C: SerializerConfig>(
         &self,
         se: &mut Serializer<W, C>,
-    ) -> Result<(), rmp_encode::Error> {
-        let parts = rmp_encode::Three {
+    ) -> Result<(), rmp_serde::encode::Error> {
+        let parts = rmp_serde::encode::Three {
             first: &self.second,
             second: &self.sensor,
             third: &self.celsius,
@@ -50,7 +51,7 @@ impl Serialize for Reading {
         se.serialize_fields("Reading", &["second", "sensor", "celsius"], &parts)
     }
 
-    #[tactic(auto, using(rmp_encode::proofs::Fields::structure_no_byte))]
+    #[tactic(auto, using(rmp_serde::proofs::Attributes::structure_no_byte))]
     fn as_u8(&self, _human: bool) -> Option<u8> {
         None
     }
@@ -74,11 +75,9 @@ impl<'de, R: ReadSlice<'de>> Deserialize<'de, R> for Reading {
     #[inline(always)]
     fn deserialize<C: SerializerConfig>(
         de: &mut Deserializer<R, C>,
-    ) -> Result<Reading, rmp_decode::Error> {
-        let read: Result<(u32, (String, (i16, ()))), rmp_decode::Error> = rmp_decode::read_fields_3(
-            de,
-            &["second", "sensor", "celsius"],
-        );
+    ) -> Result<Reading, rmp_serde::decode::Error> {
+        let read: Result<(u32, (String, (i16, ()))), rmp_serde::decode::Error> =
+            rmp_serde::decode::read_fields_3(de, &["second", "sensor", "celsius"]);
         match read {
             Ok(parts) => {
                 let (second, (sensor, (celsius, ()))) = parts;
@@ -112,6 +111,10 @@ impl<'de, R: ReadSlice<'de>> RoundTrip<'de, R> for Reading {
 
     ghost same = { λ v w. ⟦<u32 as RoundTrip<'de, R>>⟧.same v.second w.second × ⟦<String as RoundTrip<'de, R>>⟧.same v.sensor w.sensor
         × ⟦<i16 as RoundTrip<'de, R>>⟧.same v.celsius w.celsius };
+
+    ghost alike = { λ human v w h i. structure_of ((codes "second", (⟦<u32 as Serialize>⟧.data_of (h.0 i) human))
+        ∷ ((codes "sensor", (text_alike (string_bytes v.sensor) (string_bytes w.sensor) h.1 i))
+        ∷ ((codes "celsius", (⟦<i16 as Serialize>⟧.data_of (h.2 i) human)) ∷ []))) };
 
     ghost only = { λ s v fits. lowers_then s _ _ (λ m. (w : _) → (⟦<Reading as Deserialize<'de, R>>⟧.reads s.human R.lends) m w
         → ⟦<u32 as RoundTrip<'de, R>>⟧.same v.second w.second × ⟦<String as RoundTrip<'de, R>>⟧.same v.sensor w.sensor

@@ -1,12 +1,13 @@
 //! How the types of times.rt are written and read. Written by tools/derive.py.
 //!
 //! Sum of Event: 78057d24.
-ghost use Rattle.rmp_decode.specs.FieldRefusing.{RefusesFields};
-ghost use Rattle.rmp_decode.specs.Fields.{OfFields, Field, Absent, NoField};
-ghost use Rattle.rmp_decode.specs.Refusing.{part_of};
-ghost use Rattle.rmp_encode.specs.Refusals.{OfParts};
-ghost use Rattle.rmp_encode.specs.Sizes.{one_of};
-ghost use Rattle.rmp_encode.specs.Trees.{structure_of};
+ghost use Rattle.rmp_serde.specs.Decoding.FieldRefusing.{RefusesFields};
+ghost use Rattle.rmp_serde.specs.Decoding.Fields.{OfFields, Field, Absent, NoField};
+ghost use Rattle.rmp_serde.specs.Decoding.Refusing.{part_of};
+ghost use Rattle.rmp_serde.specs.Encoding.Refusals.{OfParts};
+ghost use Rattle.rmp_serde.specs.Encoding.Sizes.{one_of};
+ghost use Rattle.rmp_serde.specs.Encoding.Trees.{structure_of};
+ghost use Rattle.rmp_serde.specs.AlikeData.{text_alike};
 ghost use Rattle.rmp_serde.specs.FieldEnds.{fields_inside};
 ghost use Rattle.rmp_serde.specs.LeafEnds.{string_inside};
 ghost use Rattle.rmp_serde.specs.LeafRounds.{string_row};
@@ -15,17 +16,17 @@ ghost use Rattle.rmp_serde.specs.OnlyLeaves.{string_only};
 ghost use Rattle.rmp_serde.specs.OnlyRows.{lowers_then};
 ghost use Rattle.rmp_serde.specs.RoundTrip.{Only};
 ghost use Rattle.rmp_serde.specs.StructRounds.{structure_all, structure_row, structure_other, fields_none, fields_cons};
-ghost use Rattle.rmp_serde.specs.TimestampRounds.{time_only, time_row, time_inside};
+ghost use Rattle.rmp_serde.specs.TimestampRounds.{time_alike, time_only, time_row, time_inside};
 ghost use Rattle.std.proofs.Common.{refl};
 ghost use Rattle.std.specs.Option.{is_none};
 ghost use Rattle.std.specs.Prelude.{◌∷◌, [], None, codes, string_bytes};
 
 use super::{Event, Timestamp};
-use rmp_decode::{Deserialize, Deserializer};
-use rmp_encode::{Serialize, Serializer};
+use rmp_serde::decode::{Deserialize, Deserializer};
+use rmp_serde::encode::{Serialize, Serializer};
+use rmp_serde::wire::config::SerializerConfig;
+use rmp_serde::wire::{ReadSlice, Sink};
 use rmp_serde::{EndsInside, NeverNil, RoundTrip};
-use rmp_wire::config::SerializerConfig;
-use rmp_wire::{ReadSlice, Sink};
 
 impl Serialize for Event {
     ghost data_of = { λ v human. structure_of ((codes "time", ⟦<Timestamp as Serialize>⟧.data_of v.time human)
@@ -40,15 +41,15 @@ impl Serialize for Event {
     fn serialize<W: Sink, C: SerializerConfig>(
         &self,
         se: &mut Serializer<W, C>,
-    ) -> Result<(), rmp_encode::Error> {
-        let parts = rmp_encode::Both {
+    ) -> Result<(), rmp_serde::encode::Error> {
+        let parts = rmp_serde::encode::Both {
             first: &self.time,
             second: &self.what,
         };
         se.serialize_fields("Event", &["time", "what"], &parts)
     }
 
-    #[tactic(auto, using(rmp_encode::proofs::Fields::structure_no_byte))]
+    #[tactic(auto, using(rmp_serde::proofs::Attributes::structure_no_byte))]
     fn as_u8(&self, _human: bool) -> Option<u8> {
         None
     }
@@ -69,11 +70,9 @@ impl<'de, R: ReadSlice<'de>> Deserialize<'de, R> for Event {
     #[inline(always)]
     fn deserialize<C: SerializerConfig>(
         de: &mut Deserializer<R, C>,
-    ) -> Result<Event, rmp_decode::Error> {
-        let read: Result<(Timestamp, (String, ())), rmp_decode::Error> = rmp_decode::read_fields_2(
-            de,
-            &["time", "what"],
-        );
+    ) -> Result<Event, rmp_serde::decode::Error> {
+        let read: Result<(Timestamp, (String, ())), rmp_serde::decode::Error> =
+            rmp_serde::decode::read_fields_2(de, &["time", "what"]);
         match read {
             Ok(parts) => {
                 let (time, (what, ())) = parts;
@@ -99,6 +98,9 @@ impl<'de, R: ReadSlice<'de>> RoundTrip<'de, R> for Event {
         (Absent ⟦<String as Deserialize<'de, R>>⟧.absent v.what) _ (string_row s (string_bytes v.what)) (fields_none s))) };
 
     ghost same = { λ v w. ⟦<Timestamp as RoundTrip<'de, R>>⟧.same v.time w.time × ⟦<String as RoundTrip<'de, R>>⟧.same v.what w.what };
+
+    ghost alike = { λ human v w h i. structure_of ((codes "time", (time_alike v.time.seconds w.time.seconds v.time.nanoseconds w.time.nanoseconds h.0 i))
+        ∷ ((codes "what", (text_alike (string_bytes v.what) (string_bytes w.what) h.1 i)) ∷ [])) };
 
     ghost only = { λ s v fits. lowers_then s _ _ (λ m. (w : _) → (⟦<Event as Deserialize<'de, R>>⟧.reads s.human R.lends) m w
         → ⟦<Timestamp as RoundTrip<'de, R>>⟧.same v.time w.time × ⟦<String as RoundTrip<'de, R>>⟧.same v.what w.what)

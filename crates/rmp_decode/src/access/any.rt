@@ -12,6 +12,7 @@ ghost use Rattle.rmp_decode.specs.Steps.{AppendsContent, AppendsText};
 ghost use Rattle.rmp_decode.specs.declared.deserializer.Kept.TheVariants.{Nothing};
 
 use crate::access::map::MapAccess;
+use crate::access::parts::inner_room;
 use crate::access::seq::SeqAccess;
 use crate::content::ReadContent;
 use crate::content::pieces::lent;
@@ -175,17 +176,6 @@ pub enum Any<'x, R, C> {
 }
 
 impl<R: Source, C: SerializerConfig> Deserializer<R, C> {
-    // A message without parts, which was read whole.
-    #[inline(always)]
-    fn leaf<T: Copy>(&mut self, value: T) -> Leaf<'_, R, C, T>
-        ensures same_reference { result.de.ghost_name ≡ self.entry.ghost_name }
-        ensures value { leaf_value result ≡ value }
-        ensures ready { leaf_lender result ≡ record self.old { failed = false } }
-    {
-        self.failed = false;
-        Leaf { de: self, value }
-    }
-
     /// Reads a message of any kind: a number, a truth, nil or the bits of a float whole, and the head of any other.
     ///
     /// # Errors
@@ -196,14 +186,32 @@ impl<R: Source, C: SerializerConfig> Deserializer<R, C> {
         ensures same_reference { IfOk result (λ a. any_name a ≡ self.entry.ghost_name) }
         ensures opened { IfOk result (OpensAny R.Source self.old) }
     {
-        let inner = self.room.saturating_sub(1);
+        let inner = inner_room(self.room, false);
         match self.opening(Levels::Parts) {
             Ok((_, head)) => match head {
-                Head::Nil => Ok(Any::Nil(self.leaf(()))),
-                Head::Truth(value) => Ok(Any::Truth(self.leaf(value))),
-                Head::Whole(value) => Ok(Any::Whole(self.leaf(value))),
-                Head::F32Bits(value) => Ok(Any::F32Bits(self.leaf(value))),
-                Head::F64Bits(value) => Ok(Any::F64Bits(self.leaf(value))),
+                Head::Nil => {
+                    self.failed = false;
+                    Ok(Any::Nil(Leaf {
+                        de: self,
+                        value: (),
+                    }))
+                }
+                Head::Truth(value) => {
+                    self.failed = false;
+                    Ok(Any::Truth(Leaf { de: self, value }))
+                }
+                Head::Whole(value) => {
+                    self.failed = false;
+                    Ok(Any::Whole(Leaf { de: self, value }))
+                }
+                Head::F32Bits(value) => {
+                    self.failed = false;
+                    Ok(Any::F32Bits(Leaf { de: self, value }))
+                }
+                Head::F64Bits(value) => {
+                    self.failed = false;
+                    Ok(Any::F64Bits(Leaf { de: self, value }))
+                }
                 Head::Text(len) => Ok(Any::Text(RawAccess {
                     de: self,
                     len,

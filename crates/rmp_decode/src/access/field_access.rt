@@ -1,33 +1,19 @@
 //! The fields of structs, one after another.
-ghost use Rattle.std.specs.Prelude.{◌≡◌, ◌≢◌, ◌-◌, ◌<◌, ◌≤◌, ◌^◌, Some, None, true, false, length, IfSome, IfNone, IfOk, IfErr, OnOk, OnErr};
-ghost use Rattle.std.specs.Prelude.{MatchResult, max};
-ghost use Rattle.std.specs.Int.{bit_at};
-ghost use Rattle.std.specs.Io.KnownBytes.{IsAtEnd};
-ghost use Rattle.rmp_decode.specs.Exact.{IsDataEnd, RefusesBy};
-ghost use Rattle.rmp_decode.specs.Variants.{is_bare, variant_lender, variant_reference, content_room};
-ghost use Rattle.rmp_decode.specs.With.{OffersPart};
-ghost use Rattle.std.specs.Borrow.{sem, RestsIfErr};
-ghost use Rattle.rmp_decode.specs.contracts.deserializer.Deserializer.{the_row};
-ghost use Rattle.rmp_decode.specs.FieldAccess.{IsStructOpen, SameStruct, AtField, AtFieldValue, TakesPlace, TakesPlaceAs, NoPlace, FailsPlace};
-ghost use Rattle.rmp_decode.specs.FieldAccess.{NoName, TakesName, FailsName, EndsEarly, Meets, TakesField, FailsField, ValueRefused, FailsKey};
-ghost use Rattle.rmp_decode.specs.FieldAccess.{FailsToPass, is_of_map, fields_left, fields_in, owes_field, is_struct_sound, struct_lender, struct_reference, names_in};
-ghost use Rattle.rmp_decode.specs.FieldAccess.{as_map, unsound, OpensStructIn, FailsToOpenStructOf, CanReadField, FieldRead};
-ghost use Rattle.rmp_decode.specs.Fields.{HasFields, not_fields, fields_head};
-ghost use Rattle.rmp_decode.specs.Law.{IsFailedBefore, Explains, TakesHead};
-ghost use Rattle.rmp_decode.specs.Maps.{IsMapOpen, AtKey, TakesKey, TakesValue};
-ghost use Rattle.rmp_decode.specs.Names.{bytes_of, IsName};
-ghost use Rattle.rmp_decode.specs.Skip.{any_tree};
-ghost use Rattle.rmp_decode.specs.State.{left, config_of, faults_of, is_failed, is_strict, kept_of, Stays};
-ghost use Rattle.rmp_decode.specs.declared.deserializer.Kept.TheVariants.{Nothing};
-ghost use Rattle.rmp_decode.specs.Parts.{FailsPart};
+ghost use Rattle.std.specs.Prelude.{◌≡◌, ◌≢◌, ◌-◌, ◌<◌, ◌^◌, Some, None, true, false, IfSome, IfNone, IfOk, IfErr, OnOk, OnErr};
+ghost use Rattle.std.specs.Prelude.{MatchResult};
+ghost use Rattle.rmp_decode.specs.FieldAccess.{IsStructOpen, SameStruct, AtField, AtFieldValue, TakesPlace, NoPlace, FailsPlace, ReadsName};
+ghost use Rattle.rmp_decode.specs.FieldAccess.{TakesField, FailsField, ValueRefused};
+ghost use Rattle.rmp_decode.specs.FieldAccess.{is_of_map, fields_left, fields_in, owes_field, is_struct_sound, struct_lender, struct_reference};
+ghost use Rattle.rmp_decode.specs.FieldAccess.{as_map, unsound, CanReadField, FieldRead};
+ghost use Rattle.rmp_decode.specs.Law.{IsFailedBefore};
+ghost use Rattle.rmp_decode.specs.Maps.{AtKey};
+ghost use Rattle.rmp_decode.specs.State.{left, is_failed};
 ghost use Rattle.rmp_decode.specs.Words.{field_of, fitting};
 
 pub(crate) mod recursive;
 
 use crate::access::fields::Passed;
-use crate::access::parts::levels_outside;
-use crate::access::seq::inner_room;
-use crate::access::variant::Variant;
+use crate::access::seq::data_fault;
 use crate::de::Deserialize;
 use crate::deserializer::Deserializer;
 use crate::error::Error;
@@ -61,38 +47,6 @@ fn bit_of(place: usize) -> u128
     if place < 128 { 1 << place } else { 0 }
 }
 
-impl<R: Source, C: SerializerConfig> Deserializer<R, C> {
-    // Consumes the head of the fields that are a variant's content.
-    #[inline(always)]
-    pub(crate) fn open_struct_content(&mut self, inner: u32) -> Result<(Option<bool>, u32), Error>
-        ensures ok { IfOk result (λ p. TakesHead R.Source (fields_head p.0 p.1) self.old self.new) }
-        ensures deep { IfOk result (λ p. p.0 ≢ Some true → 1 < inner) }
-        ensures stays { Stays R.Source self.old self.new }
-        ensures sound { OnOk result (faults_of R.Source self.new ≡ faults_of R.Source self.old) }
-        ensures clean { OnOk result (kept_of self.new ≡ Nothing) }
-        ensures failed { is_failed self.new ≡ true }
-        ensures err { IfErr result (FailsPart R.Source (λ m (u : Unit {0}). HasFields m) (max 1 inner) self.old self.new) }
-        ensures exact { IfErr result (RefusesBy (is_strict self.old) (not_fields (max 1 inner)) (faults_of R.Source self.old)
-            (faults_of R.Source self.new) (left R.Source self.old)) }
-        ensures memory { IfErr result (λ e. e ≢ Error.OutOfMemory) }
-    {
-        let outer = self.room;
-        self.room = inner;
-        self.failed = false;
-        match self.open_struct() {
-            Ok((kind, len)) => {
-                self.room = outer;
-                Ok((kind, len))
-            }
-            Err(e) => {
-                self.room = outer;
-                self.levels = levels_outside(self.levels, outer, inner);
-                Err(e)
-            }
-        }
-    }
-}
-
 impl<'x, R: Source, C: SerializerConfig> FieldAccess<'x, R, C> {
     /// Returns how many elements or pairs haven't begun.
     pub fn left(&self) -> u32
@@ -108,131 +62,33 @@ impl<'x, R: Source, C: SerializerConfig> FieldAccess<'x, R, C> {
         self.owes
     }
 
-    // Reads the next key, and returns which of the names it is.
-    #[inline(always)]
-    fn next_name<'de>(&mut self) -> Result<Option<usize>, Error>
-    where
-        R: ReadSlice<'de>,
-        requires some { 0 < fields_left self.old }
-        ensures same_reference { struct_reference self.new ≡ struct_reference self.old }
-        ensures same { SameStruct self.old self.new }
-        ensures met { self.new.met ≡ self.old.met }
-        ensures ok { IfOk result (TakesKey R.Source (IsName (names_in self.old)) (as_map self.old) (as_map self.new)) }
-        ensures err { IfErr result (FailsKey R.Source (C.human (config_of (struct_lender self.old))) R.lends (names_in self.old)
-            (as_map self.old) (as_map self.new)) }
-        ensures failed { OnErr result (is_struct_sound self.new ≡ false) }
-        ensures memory { R.lends ≡ true → IfErr result (λ e. e ≢ Error.OutOfMemory) }
-    {
-        self.sound = false;
-        match self.de.name_part(self.inner, self.names) {
-            Ok(name) => {
-                self.left -= 1;
-                self.owes = true;
-                self.sound = true;
-                Ok(name)
-            }
-            Err(e) => Err(e),
-        }
-    }
-
-    // Skips the value of the last key.
-    #[inline(always)]
-    fn pass<'de>(&mut self) -> Result<(), Error>
-    where
-        R: ReadSlice<'de>,
-        ensures same_reference { struct_reference self.new ≡ struct_reference self.old }
-        ensures same { SameStruct self.old self.new }
-        ensures met { self.new.met ≡ self.old.met }
-        ensures ok { OnOk result (TakesValue R.Source any_tree (as_map self.old) (as_map self.new) tt) }
-        ensures err { IfErr result (FailsToPass R.Source (C.human (config_of (struct_lender self.old))) R.lends (as_map self.old) (as_map self.new)) }
-        ensures failed { OnErr result (is_struct_sound self.new ≡ false) }
-    {
-        self.sound = false;
-        match self.de.part::<Passed>(self.inner) {
-            Ok(_) => {
-                self.owes = false;
-                self.sound = true;
-                Ok(())
-            }
-            Err(e) => Err(e),
-        }
-    }
-
     // Reads keys up to the next one that is a name, and skips the pairs of the others.
     #[inline(always)]
     fn next_named<'de>(&mut self) -> Result<Option<usize>, Error>
     where
         R: ReadSlice<'de>,
         requires { AtKey (as_map self.old) }
-        ensures same_reference { struct_reference self.new ≡ struct_reference self.old }
-        ensures same { SameStruct self.old self.new }
-        ensures met { self.new.met ≡ self.old.met }
-        ensures none { IsMapOpen (as_map self.old) → IfOk result (λ o. IfNone o (NoName R.Source (names_in self.old) (as_map self.old) (as_map self.new))) }
-        ensures some { IsMapOpen (as_map self.old) → IfOk result (λ o. IfSome o
-            (λ place. TakesName R.Source (names_in self.old) place (as_map self.old) (as_map self.new))) }
-        ensures err { IsMapOpen (as_map self.old) → IfErr result (FailsName R.Source (C.human (config_of (struct_lender self.old))) R.lends
-            (names_in self.old) (as_map self.old) (as_map self.new)) }
-        ensures fewer { IfOk result (λ o. IfSome o (λ _. fields_left self.new < fields_left self.old)) }
-        ensures failed { OnErr result (is_struct_sound self.new ≡ false) }
+        ensures { ReadsName R.Source C.human R.lends self.old self.new result }
     {
         while self.left > 0 {
-            match self.next_name() {
-                Ok(Some(place)) => return Ok(Some(place)),
-                Ok(None) => match self.pass() {
-                    Ok(()) => {}
-                    Err(e) => return Err(e),
-                },
+            self.sound = false;
+            let name = match self.de.name_part(self.inner, self.names) {
+                Ok(name) => name,
+                Err(e) => return Err(e),
+            };
+            self.left -= 1;
+            if let Some(place) = name {
+                self.owes = true;
+                self.sound = true;
+                return Ok(Some(place));
+            }
+            match self.de.part::<Passed>(self.inner) {
+                Ok(_) => {}
                 Err(e) => return Err(e),
             }
+            self.sound = true;
         }
         Ok(None)
-    }
-
-    // The place of the next element of a list.
-    #[inline(always)]
-    fn next_listed(&mut self) -> Result<Option<usize>, Error>
-        requires { AtField self.old }
-        ensures same_reference { struct_reference self.new ≡ struct_reference self.old }
-        ensures same { SameStruct self.old self.new }
-        ensures lender { struct_lender self.new ≡ struct_lender self.old }
-        ensures none { IfOk result (λ o. IfNone o ((length (names_in self.old) ≤ fields_in self.old - fields_left self.old) × (self.new ≡ self.old))) }
-        ensures some { IfOk result (λ o. IfSome o (λ place. (place < length (names_in self.old)) × TakesPlaceAs false R.Source place self.old self.new)) }
-        ensures err { IfErr result (EndsEarly self.old self.new) }
-        ensures fewer { IfOk result (λ o. IfSome o (λ _. fields_left self.new < fields_left self.old)) }
-        ensures failed { OnErr result (is_struct_sound self.new ≡ false) }
-    {
-        let place = self.count.saturating_sub(self.left) as usize;
-        if place >= self.names.len() {
-            return Ok(None);
-        }
-        if self.left == 0 {
-            self.sound = false;
-            return Err(Error::Syntax(Text::InvalidLength));
-        }
-        self.left -= 1;
-        self.owes = true;
-        Ok(Some(place))
-    }
-
-    // Notes that a field was met, unless it was met before.
-    #[inline(always)]
-    fn meet(&mut self, place: usize) -> Result<(), Error>
-        ensures same_reference { struct_reference self.new ≡ struct_reference self.old }
-        ensures same { SameStruct self.old self.new }
-        ensures pairs { OnOk result (as_map self.new ≡ as_map self.old) }
-        ensures ok { place < 128 → OnOk result (Meets place self.old self.new) }
-        ensures err { place < 128 → IfErr result (λ e. (e ≡ Error.Syntax Text.DuplicateField) × (bit_at self.old.met place ≡ 1)) }
-        ensures lender { self.new.de ≡ self.old.de }
-        ensures left { fields_left self.new ≡ fields_left self.old }
-        ensures failed { OnErr result (is_struct_sound self.new ≡ false) }
-    {
-        let bit = bit_of(place);
-        if self.met & bit != 0 {
-            self.sound = false;
-            return Err(Error::Syntax(Text::DuplicateField));
-        }
-        self.met |= bit;
-        Ok(())
     }
 
     /// Returns the place of the next field among the names, if there is one. In a list it is the number of elements
@@ -253,7 +109,7 @@ impl<'x, R: Source, C: SerializerConfig> FieldAccess<'x, R, C> {
         ensures none { IsStructOpen self.old → IfOk result (λ o. IfNone o (NoPlace R.Source self.old self.new)) }
         ensures some { IsStructOpen self.old → IfOk result (λ o. IfSome o (TakesPlace R.Source self.old self.new)) }
         ensures err { IsStructOpen self.old → IfErr result
-            (FailsPlace R.Source (C.human (config_of (struct_lender self.old))) R.lends self.old self.new) }
+            (FailsPlace R.Source C.human R.lends self.old self.new) }
         ensures fewer { IfOk result (λ o. IfSome o (λ _. fields_left self.new < fields_left self.old)) }
         ensures failed { OnErr result (is_struct_sound self.new ≡ false) }
         ensures before { is_struct_sound self.old ≡ false → MatchResult result (λ _. ⊥) IsFailedBefore × (self.new ≡ self.old) }
@@ -261,45 +117,31 @@ impl<'x, R: Source, C: SerializerConfig> FieldAccess<'x, R, C> {
         if !self.sound {
             return Err(Error::Uncategorized(Text::FailedBefore));
         }
-        if !self.is_map {
-            return self.next_listed();
+        if self.is_map {
+            let place = match self.next_named() {
+                Ok(Some(place)) => place,
+                Ok(None) => return Ok(None),
+                Err(e) => return Err(e),
+            };
+            let bit = bit_of(place);
+            if self.met & bit != 0 {
+                self.sound = false;
+                return Err(Error::Syntax(Text::DuplicateField));
+            }
+            self.met |= bit;
+            return Ok(Some(place));
         }
-        let place = match self.next_named() {
-            Ok(Some(place)) => place,
-            Ok(None) => return Ok(None),
-            Err(e) => return Err(e),
-        };
-        match self.meet(place) {
-            Ok(()) => Ok(Some(place)),
-            Err(e) => Err(e),
+        let place = self.count.saturating_sub(self.left) as usize;
+        if place >= self.names.len() {
+            return Ok(None);
         }
-    }
-
-    // Where bytes are read as a list, consumes the next byte and keeps it back as a number. Otherwise it does nothing.
-    #[inline(always)]
-    fn offer(&mut self) -> Result<(), Error>
-        ensures same_reference { struct_reference self.new ≡ struct_reference self.old }
-        ensures same { SameStruct self.old self.new }
-        ensures met { self.new.met ≡ self.old.met }
-        ensures left { self.new.left ≡ self.old.left }
-        ensures ok { OnOk result (OffersPart R.Source self.old.bytes (struct_lender self.old) (struct_lender self.new)) }
-        ensures bytes { OnErr result (self.old.bytes ≡ true) }
-        ensures stays { Stays R.Source (struct_lender self.old) (struct_lender self.new) }
-        ensures failed { is_failed (struct_lender self.new) ≡ is_failed (struct_lender self.old) }
-        ensures err { IfErr result (λ e. Explains e (faults_of R.Source (struct_lender self.old)) (faults_of R.Source (struct_lender self.new))
-            (IsAtEnd (R.ahead (struct_lender self.old).reader))) }
-        ensures end { IfErr result (λ e. faults_of R.Source (struct_lender self.new) ≡ faults_of R.Source (struct_lender self.old) → IsDataEnd e) }
-        ensures sound { is_struct_sound self.new ≡ false }
-        ensures memory { IfErr result (λ e. e ≢ Error.OutOfMemory) }
-    {
-        self.sound = false;
-        if !self.bytes {
-            return Ok(());
+        if self.left == 0 {
+            self.sound = false;
+            return Err(Error::Syntax(Text::InvalidLength));
         }
-        match self.de.keep_byte() {
-            Ok(()) => Ok(()),
-            Err(e) => Err(e),
-        }
+        self.left -= 1;
+        self.owes = true;
+        Ok(Some(place))
     }
 
     /// Reads the value of the field whose place was returned last.
@@ -314,11 +156,11 @@ impl<'x, R: Source, C: SerializerConfig> FieldAccess<'x, R, C> {
         ensures same_reference { struct_reference self.new ≡ struct_reference self.old }
         ensures same { SameStruct self.old self.new }
         ensures ok { IsStructOpen self.old → IfOk result
-            (TakesField R.Source (T.reads (C.human (config_of (struct_lender self.old))) R.lends) self.old self.new) }
+            (TakesField R.Source (T.reads C.human R.lends) self.old self.new) }
         ensures err { IsStructOpen self.old → IfErr result
-            (FailsField R.Source (T.reads (C.human (config_of (struct_lender self.old))) R.lends) self.old self.new) }
+            (FailsField R.Source (T.reads C.human R.lends) self.old self.new) }
         ensures refused { IsStructOpen self.old → IfErr result
-            (ValueRefused R.Source (C.human (config_of (struct_lender self.old))) R.lends T.refuses self.old self.new) }
+            (ValueRefused R.Source C.human R.lends T.refuses self.old self.new) }
         ensures memory { T.takes_memory R.lends ≡ false → IfErr result (λ e. e ≢ Error.OutOfMemory) }
         ensures left { fields_left self.new ≡ fields_left self.old }
         ensures failed { OnErr result (is_struct_sound self.new ≡ false) }
@@ -327,9 +169,10 @@ impl<'x, R: Source, C: SerializerConfig> FieldAccess<'x, R, C> {
         if !self.sound {
             return Err(Error::Uncategorized(Text::FailedBefore));
         }
-        match self.offer() {
+        self.sound = false;
+        match self.de.offer_part(self.bytes) {
             Ok(()) => {}
-            Err(e) => return Err(e),
+            Err(fault) => return Err(data_fault(fault)),
         }
         match self.de.part(self.inner) {
             Ok(value) => {
@@ -366,9 +209,10 @@ impl<'x, R: Source, C: SerializerConfig> FieldAccess<'x, R, C> {
         if !self.sound {
             return Err(Error::Uncategorized(Text::FailedBefore));
         }
-        match self.offer() {
+        self.sound = false;
+        match self.de.offer_part(self.bytes) {
             Ok(()) => {}
-            Err(e) => return Err(e),
+            Err(fault) => return Err(data_fault(fault)),
         }
         match self.de.part_with(self.inner, f) {
             Ok(part) => {
@@ -416,55 +260,5 @@ impl<'x, R: Source, C: SerializerConfig> FieldAccess<'x, R, C> {
     {
         let (left, count, sound) = (self.left, self.count, self.sound);
         self.de.end_parts(left, count, sound)
-    }
-}
-
-impl<'x, R: Source, C: SerializerConfig> Variant<'x, R, C> {
-    /// Opens the content of a variant as the fields of a struct: a list, bytes as the list of their numbers, or a map
-    /// from the names, of which there may be 128. Ending the fields ends the variant.
-    ///
-    /// # Errors
-    /// `Syntax("invalid type")` if the variant is only a name, and otherwise those of `deserialize_struct`.
-    #[inline(always)]
-    pub fn struct_variant(self, names: &'x [&'x str]) -> Result<FieldAccess<'x, R, C>, Error>
-        requires few { length names.now ≤ 128 }
-        ensures* refused { sem 𝓛 (RestsIfErr (the_row R.row C.row) self.entry.de struct_reference result
-            (λ last. IfErr result (FailsToOpenStructOf R.Source self.entry last))) }
-        ensures same_reference { IfOk result (λ a. struct_reference a ≡ variant_reference self.entry) }
-        ensures paired { OnOk result (is_bare self.entry ≡ false) }
-        ensures opened { IfOk result (OpensStructIn R.Source (bytes_of names.now) (content_room self.entry) (variant_lender self.entry)) }
-        ensures memory { IfErr result (λ e. e ≢ Error.OutOfMemory) }
-    {
-        let Variant { de, bare, inner } = self;
-        if bare {
-            return Err(Error::Syntax(Text::InvalidType));
-        }
-        match de.open_struct_content(inner) {
-            Ok((Some(bytes), left)) => Ok(FieldAccess {
-                de,
-                names,
-                left,
-                count: left,
-                inner: inner_room(inner, bytes),
-                is_map: false,
-                bytes,
-                owes: false,
-                sound: true,
-                met: 0,
-            }),
-            Ok((None, left)) => Ok(FieldAccess {
-                de,
-                names,
-                left,
-                count: left,
-                inner: inner.saturating_sub(1),
-                is_map: true,
-                bytes: false,
-                owes: false,
-                sound: true,
-                met: 0,
-            }),
-            Err(e) => Err(e),
-        }
     }
 }

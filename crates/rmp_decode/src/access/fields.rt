@@ -4,28 +4,26 @@ pub(crate) mod sixteen;
 mod wide;
 
 ghost use Rattle.std.specs.Prelude.{◌≡◌, ◌≢◌, ◌⊎◌, ◌<◌, ◌≤◌, ◌||◌, ℕ, Bool, List, Option, None, Some, true};
-ghost use Rattle.std.specs.Prelude.{false, length, IfErr, IfOk, IfSome, IfNone, MatchResult, max, ◌^◌};
+ghost use Rattle.std.specs.Prelude.{false, length, IfErr, IfOk, IfSome, IfNone, OnSome, MatchOption, max, ◌^◌};
 ghost use Rattle.std.specs.Borrow.{sem, RestsIfErr};
 ghost use Rattle.rmp_wire.specs.Msg.{Msg, Msgs};
 ghost use Rattle.rmp_decode.specs.contracts.deserializer.Deserializer.{the_row};
 ghost use Rattle.rmp_decode.specs.Fields.{OfFields, Field, Absent, NoField, Slot, AreBlank, parts_name};
-ghost use Rattle.rmp_decode.specs.Fields.{OpensFields, FailsToOpenFields, at, given_all, Fills, IsFull, name_refusal, pass_refusal};
+ghost use Rattle.rmp_decode.specs.Fields.{OpensFields, FailsToOpenFields, at, given_all, Fills, IsFull, pass_refusal};
 ghost use Rattle.rmp_decode.specs.FieldRefusing.{PartsHold, FillRefused, RefusesFields, PassesSome, missing_place};
-ghost use Rattle.rmp_decode.specs.FieldRows.{TakesRow, FailsRow, ReadsRow, MissesRow, in_row};
+ghost use Rattle.rmp_decode.specs.FieldRows.{TakesRow, FailsRow};
 ghost use Rattle.rmp_decode.specs.Law.{Lawful};
-ghost use Rattle.rmp_decode.specs.MapRefusing.{PartRefused, KeyRefused};
-ghost use Rattle.rmp_decode.specs.Maps.{IsMapOpen, AtValue, TakesKey, pairs_left, map_lender, map_reference, map_inner};
-ghost use Rattle.rmp_decode.specs.Names.{bytes_of, IsName};
-ghost use Rattle.rmp_decode.specs.NamesAhead.{IsBelow};
-ghost use Rattle.rmp_decode.specs.Parts.{TakesPart, FailsPart};
-ghost use Rattle.rmp_decode.specs.Refusing.{Setting, Part, RefusesAs, RefusesParts, RefusesTuple, PartsRefused, setting_of, no_refusal};
-ghost use Rattle.rmp_decode.specs.Seq.{IsOpen, OfRow, TakesParts, FailsParts, lender_of, reference_of};
-ghost use Rattle.rmp_decode.specs.State.{left, config_of, faults_of, kept_of, is_failed};
+ghost use Rattle.rmp_decode.specs.Maps.{IsMapOpen, AtValue, pairs_left, map_lender, map_reference, map_inner};
+ghost use Rattle.rmp_decode.specs.Names.{bytes_of};
+ghost use Rattle.rmp_decode.specs.Parts.{FailsPart};
+ghost use Rattle.rmp_decode.specs.Refusing.{Setting, Part, ReadsAs, RefusesAs, RefusesParts, RefusesTuple, PartsRefused, setting_of, no_refusal};
+ghost use Rattle.rmp_decode.specs.Seq.{IsOpen, OfRow, TakesParts, FailsParts, reference_of};
+ghost use Rattle.rmp_decode.specs.State.{left, faults_of, kept_of, is_failed};
 ghost use Rattle.rmp_decode.specs.declared.deserializer.Kept.TheVariants.{Nothing};
 
 use crate::access::map::MapAccess;
-use crate::access::parts::levels_outside;
-use crate::access::seq::{SeqAccess, inner_room};
+use crate::access::parts::{inner_room, levels_outside};
+use crate::access::seq::SeqAccess;
 use crate::de::Deserialize;
 use crate::deserializer::Deserializer;
 use crate::deserializer::peek::ListOf;
@@ -96,26 +94,24 @@ pub trait Fields<'de, R: ReadSlice<'de>>: Sized + Drop {
         requires still { IsMapOpen map.old }
         ensures same_reference { map_reference map.new ≡ map_reference map.old }
         ensures ok { result ≡ true
-            → Fills R.Source (holds (C.human (config_of (map_lender map.old))) R.lends) place map.old map.new slots.old slots.new }
+            → Fills R.Source (holds C.human R.lends) place map.old map.new slots.old slots.new }
         ensures some { result ≡ false → refusal.new ≢ None }
         ensures err { result ≡ false → IfSome refusal.new (λ e. FailsPart R.Source
-            (λ m (u : Unit {0}). takes (C.human (config_of (map_lender map.old))) R.lends place m) (map_inner map.old) (map_lender map.old)
+            (λ m (u : Unit {0}). takes C.human R.lends place m) (map_inner map.old) (map_lender map.old)
             (map_lender map.new) e
-            ⊎ IsFull (holds (C.human (config_of (map_lender map.old))) R.lends) place map.old map.new slots.old) }
-        ensures refused { result ≡ false → IfSome refusal.new (FillRefused R.Source (C.human (config_of (map_lender map.old))) R.lends
-            (holds (C.human (config_of (map_lender map.old))) R.lends) parts place map.old map.new slots.old) }
+            ⊎ IsFull (holds C.human R.lends) place map.old map.new slots.old) }
+        ensures refused { result ≡ false → IfSome refusal.new (FillRefused R.Source C.human R.lends
+            (holds C.human R.lends) parts place map.old map.new slots.old) }
         ensures memory { takes_memory R.lends ≡ false → result ≡ false → IfSome refusal.new (λ e. e ≢ Error.OutOfMemory) };
 
-    /// Returns the values.
-    ///
-    /// # Errors
-    /// The place of the first field that is missing and has no default.
-    fn finish(slots: Self::Slots) -> Result<Self, usize>
+    /// Returns the values. Returns `None` if a field is missing and has no default, and puts the place of the first one into `missing`.
+    fn finish(slots: Self::Slots, missing: &mut usize) -> Option<Self>
         ensures all { (human lends : Bool) (fs : List (Option Msg)) → holds human lends fs slots
-            → MatchResult result (reads human lends fs) (λ _. (v : Self) → reads human lends fs v → ⊥) }
+            → MatchOption result ((v : Self) → reads human lends fs v → ⊥) (reads human lends fs) }
         ensures first { count ≤ 2 ^ 64 → (human lends : Bool) (fs : List (Option Msg)) → holds human lends fs slots
-            → IfErr result (λ place. missing_place needed fs ≡ Some place) }
-        ensures within { count ≤ 2 ^ 64 → IfErr result (λ place. place < count) };
+            → IfNone result (missing_place needed fs ≡ Some missing.new) }
+        ensures within { count ≤ 2 ^ 64 → IfNone result (missing.new < count) }
+        ensures kept { OnSome result (missing.new ≡ missing.old) };
 
     /// Reads as many messages as there are fields, in order, each into the place of its field, and returns whether it
     /// succeeded. Otherwise the error is put into `refusal`, so that no read has room for an error in its result.
@@ -126,12 +122,12 @@ pub trait Fields<'de, R: ReadSlice<'de>>: Sized + Drop {
     ) -> bool
         requires ready { is_failed de.old ≡ false }
         requires clean { kept_of de.old ≡ Nothing }
-        ensures ok { result ≡ true → TakesRow R.Source (λ ms. holds (C.human (config_of de.old)) R.lends (given_all ms) slots.new) count de.old de.new }
+        ensures ok { result ≡ true → TakesRow R.Source (λ ms. holds C.human R.lends (given_all ms) slots.new) count de.old de.new }
         ensures some { result ≡ false → refusal.new ≢ None }
         ensures err { result ≡ false → IfSome refusal.new
-            (FailsRow R.Source (λ ms. (v : Self) × reads (C.human (config_of de.old)) R.lends (given_all ms) v) count de.old de.new) }
+            (FailsRow R.Source (λ ms. (v : Self) × reads C.human R.lends (given_all ms) v) count de.old de.new) }
         ensures refused { result ≡ false → IfSome refusal.new
-            (RefusesParts false (setting_of (C.human (config_of de.old)) R.lends de.old) (faults_of R.Source de.old) (faults_of R.Source de.new)
+            (RefusesParts false (setting_of C.human R.lends de.old) (faults_of R.Source de.old) (faults_of R.Source de.new)
             parts no_refusal count (left R.Source de.old)) }
         ensures memory { takes_memory R.lends ≡ false → result ≡ false → IfSome refusal.new (λ e. e ≢ Error.OutOfMemory) };
 
@@ -142,10 +138,10 @@ pub trait Fields<'de, R: ReadSlice<'de>>: Sized + Drop {
     fn listed<'x, C: SerializerConfig>(seq: &mut SeqAccess<'x, R, C>) -> Result<Self, Error>
         requires { IsOpen seq.old }
         ensures same_reference { reference_of seq.new ≡ reference_of seq.old }
-        ensures ok { IfOk result (TakesParts R.Source (λ v ms. reads (C.human (config_of (lender_of seq.old))) R.lends (given_all ms) v) seq.old seq.new) }
-        ensures err { IfErr result (FailsParts {V = Self} R.Source (λ v ms. reads (C.human (config_of (lender_of seq.old))) R.lends (given_all ms) v)
+        ensures ok { IfOk result (TakesParts R.Source (λ v ms. reads C.human R.lends (given_all ms) v) seq.old seq.new) }
+        ensures err { IfErr result (FailsParts {V = Self} R.Source (λ v ms. reads C.human R.lends (given_all ms) v)
             seq.old seq.new) }
-        ensures refused { IfErr result (PartsRefused R.Source (C.human (config_of (lender_of seq.old))) R.lends parts seq.old seq.new) }
+        ensures refused { IfErr result (PartsRefused R.Source C.human R.lends parts seq.old seq.new) }
         ensures memory { takes_memory R.lends ≡ false → IfErr result (λ e. e ≢ Error.OutOfMemory) };
 }
 
@@ -197,8 +193,8 @@ impl<'de, R: ReadSlice<'de>> Fields<'de, R> for () {
     }
 
     #[inline(always)]
-    fn finish(_slots: ()) -> Result<(), usize> {
-        Ok(())
+    fn finish(_slots: (), _missing: &mut usize) -> Option<()> {
+        Some(())
     }
 
     #[inline(always)]
@@ -286,18 +282,24 @@ impl<'de, R: ReadSlice<'de>, A: Deserialize<'de, R>, B: Fields<'de, R>> Fields<'
     }
 
     #[inline(always)]
-    fn finish(slots: (Option<A>, B::Slots)) -> Result<(A, B), usize> {
+    fn finish(slots: (Option<A>, B::Slots), missing: &mut usize) -> Option<(A, B)> {
         let (first, others) = slots;
         let first = match first {
             Some(first) => first,
             None => match A::missing() {
                 Some(first) => first,
-                None => return Err(0),
+                None => {
+                    *missing = 0;
+                    return None;
+                }
             },
         };
-        match B::finish(others) {
-            Ok(others) => Ok((first, others)),
-            Err(place) => Err(place.saturating_add(1)),
+        match B::finish(others, missing) {
+            Some(others) => Some((first, others)),
+            None => {
+                *missing = missing.saturating_add(1);
+                None
+            }
         }
     }
 
@@ -376,6 +378,8 @@ fn refusal_in(refusal: Option<Error>) -> Error
 }
 
 impl<R: Source, C: SerializerConfig> Deserializer<R, C> {
+    ghost use Rattle.rmp_decode.specs.FieldReads.{ReadsFields, ReadsAhead, ReadsNamePart, ReadsPlacePart};
+
     // Reads a key, and returns which of the names it is. The reader counts as failed until the access ends.
     #[inline(always)]
     pub(crate) fn name_part<'de>(
@@ -385,10 +389,7 @@ impl<R: Source, C: SerializerConfig> Deserializer<R, C> {
     ) -> Result<Option<usize>, Error>
     where
         R: ReadSlice<'de>,
-        ensures ok { IfOk result (TakesPart R.Source (IsName (bytes_of names.now)) (max 1 inner) self.old self.new) }
-        ensures err { IfErr result (FailsPart R.Source (IsName (bytes_of names.now)) (max 1 inner) self.old self.new) }
-        ensures refused { IfErr result (PartRefused R.Source (C.human (config_of self.old)) R.lends name_refusal (max 1 inner) self.old self.new) }
-        ensures memory { R.lends ≡ true → IfErr result (λ e. e ≢ Error.OutOfMemory) }
+        ensures { ReadsNamePart R.Source C.human R.lends (bytes_of names.now) (max 1 inner) self.old self.new result }
     {
         let outer = self.room;
         self.room = inner;
@@ -418,13 +419,7 @@ impl<R: Source, C: SerializerConfig> Deserializer<R, C> {
     ) -> Option<usize>
     where
         R: ReadSlice<'de>,
-        ensures ok { IfSome result (TakesPart R.Source (IsBelow (bytes_of names.now)) (max 1 inner) self.old self.new) }
-        ensures within { IfSome result (λ n. n ≤ length names.now) }
-        ensures some { IfNone result (refusal.new ≢ None) }
-        ensures err { IfNone result (IfSome refusal.new (FailsPart R.Source (IsName (bytes_of names.now)) (max 1 inner) self.old self.new)) }
-        ensures refused { IfNone result (IfSome refusal.new
-            (PartRefused R.Source (C.human (config_of self.old)) R.lends name_refusal (max 1 inner) self.old self.new)) }
-        ensures memory { R.lends ≡ true → IfNone result (IfSome refusal.new (λ e. e ≢ Error.OutOfMemory)) }
+        ensures { ReadsPlacePart R.Source C.human R.lends (bytes_of names.now) (max 1 inner) self.old self.new refusal.new result }
     {
         match self.name_part(inner, names) {
             Ok(Some(place)) => Some(place),
@@ -458,7 +453,7 @@ impl<R: Source, C: SerializerConfig> Deserializer<R, C> {
                 de: self,
                 left,
                 count: left,
-                inner: room.saturating_sub(1),
+                inner: inner_room(room, false),
                 owes: false,
                 sound: true,
             })),
@@ -472,28 +467,23 @@ impl<R: Source, C: SerializerConfig> Deserializer<R, C> {
     where
         R: ReadSlice<'de>,
         requires clean { kept_of self.old ≡ Nothing }
-        ensures ok { IfOk result (λ v. ReadsRow R.Source (λ ms. F.reads (C.human (config_of self.old)) R.lends (given_all ms) v) F.count self.old self.new) }
-        ensures err { IfErr result (MissesRow R.Source (λ ms. (v : F) × F.reads (C.human (config_of self.old)) R.lends (given_all ms) v) F.count self.old
-            self.new) }
-        ensures refused { IfErr result (RefusesParts false (setting_of (C.human (config_of self.old)) R.lends (in_row self.old)) (faults_of R.Source self.old)
-            (faults_of R.Source self.new) F.parts no_refusal F.count (left R.Source self.old)) }
-        ensures memory { F.takes_memory R.lends ≡ false → IfErr result (λ e. e ≢ Error.OutOfMemory) }
+        ensures { ReadsAhead R.Source C.human R.lends F.Fields self.old self.new result }
     {
         let outer = self.room;
-        let inner = outer.saturating_sub(1);
-        self.room = inner;
+        self.room = inner_room(outer, false);
         self.failed = false;
         let mut slots = F::empty();
         let mut refusal = None;
         if F::row(&mut slots, &mut refusal, self) {
             self.room = outer;
-            match F::finish(slots) {
-                Ok(values) => Ok(values),
-                Err(_) => unreachable!(),
+            let mut missing = 0;
+            match F::finish(slots, &mut missing) {
+                Some(values) => Ok(values),
+                None => unreachable!(),
             }
         } else {
             self.room = outer;
-            self.levels = levels_outside(self.levels, outer, inner);
+            self.levels = self.levels.saturating_add(1);
             match refusal {
                 Some(e) => Err(e),
                 None => unreachable!(),
@@ -511,8 +501,8 @@ impl<R: Source, C: SerializerConfig> Deserializer<R, C> {
     where
         R: ReadSlice<'de>,
         requires count { count ≡ F.count }
-        ensures law { Lawful R.Source (λ m v. OfRow (λ ms. F.reads (C.human (config_of self.old)) R.lends (given_all ms) v) m) self.old self.new result }
-        ensures refused { RefusesAs R.Source (C.human (config_of self.old)) R.lends (RefusesTuple F.parts) self.old self.new result }
+        ensures law { Lawful R.Source (λ m v. OfRow (λ ms. F.reads C.human R.lends (given_all ms) v) m) self.old self.new result }
+        ensures refused { RefusesAs R.Source C.human R.lends (RefusesTuple F.parts) self.old self.new result }
         ensures memory { F.takes_memory R.lends ≡ false → IfErr result (λ e. e ≢ Error.OutOfMemory) }
     {
         match self.take_nested(ListOf { count }) {
@@ -529,9 +519,8 @@ impl<R: Source, C: SerializerConfig> Deserializer<R, C> {
     fn opened_tuple<'de, F: Fields<'de, R>>(&mut self, count: usize) -> Result<F, Error>
     where
         R: ReadSlice<'de>,
-        ensures law { Lawful R.Source (λ m v. OfRow (λ ms. F.reads (C.human (config_of self.old)) R.lends (given_all ms) v) m) self.old self.new result }
-        ensures refused { RefusesAs R.Source (C.human (config_of self.old)) R.lends (RefusesTuple F.parts) self.old self.new result }
-        ensures memory { F.takes_memory R.lends ≡ false → IfErr result (λ e. e ≢ Error.OutOfMemory) }
+        ensures { ReadsAs R.Source C.human R.lends (F.takes_memory R.lends) (λ m v. OfRow (λ ms. F.reads C.human R.lends (given_all ms) v) m)
+            (RefusesTuple F.parts) self.old self.new result }
     {
         let mut seq = match self.deserialize_tuple(count) {
             Ok(seq) => seq,
@@ -562,14 +551,14 @@ impl<R: Source, C: SerializerConfig> Deserializer<R, C> {
     where
         R: ReadSlice<'de>,
         requires count { length names.now ≡ F.count }
-        ensures law { Lawful R.Source (λ m v. OfFields (bytes_of names.now) (λ fs. F.reads (C.human (config_of self.old)) R.lends fs v) m) self.old self.new
+        ensures law { Lawful R.Source (λ m v. OfFields (bytes_of names.now) (λ fs. F.reads C.human R.lends fs v) m) self.old self.new
             result }
-        ensures refused { RefusesAs R.Source (C.human (config_of self.old)) R.lends (RefusesFields (bytes_of names.now) F.needed F.parts) self.old self.new
+        ensures refused { RefusesAs R.Source C.human R.lends (RefusesFields (bytes_of names.now) F.needed F.parts) self.old self.new
             result }
         // If the source lends its bytes, and no field's read allocates, memory can run out only at a skipped list or
         // map that isn't empty.
         ensures memory { R.lends ≡ true → F.takes_memory R.lends ≡ false → IfErr result (λ e. e ≡ Error.OutOfMemory
-            → PassesSome (bytes_of names.now) (setting_of (C.human (config_of self.old)) R.lends self.old) (left R.Source self.old) e) }
+            → PassesSome (bytes_of names.now) (setting_of C.human R.lends self.old) (left R.Source self.old) e) }
     {
         match self.take_nested(ListOf { count: names.len() }) {
             Some(()) => self.row_ahead(),
@@ -586,12 +575,7 @@ impl<R: Source, C: SerializerConfig> Deserializer<R, C> {
     where
         R: ReadSlice<'de>,
         requires count { length names.now ≡ F.count }
-        ensures law { Lawful R.Source (λ m v. OfFields (bytes_of names.now) (λ fs. F.reads (C.human (config_of self.old)) R.lends fs v) m) self.old self.new
-            result }
-        ensures refused { RefusesAs R.Source (C.human (config_of self.old)) R.lends (RefusesFields (bytes_of names.now) F.needed F.parts) self.old self.new
-            result }
-        ensures memory { R.lends ≡ true → F.takes_memory R.lends ≡ false → IfErr result (λ e. e ≡ Error.OutOfMemory
-            → PassesSome (bytes_of names.now) (setting_of (C.human (config_of self.old)) R.lends self.old) (left R.Source self.old) e) }
+        ensures { ReadsFields R.Source C.human R.lends F.Fields (bytes_of names.now) self.old self.new result }
     {
         match self.open_fields() {
             Ok(FieldParts::Seq(mut seq)) => {
@@ -622,9 +606,10 @@ impl<R: Source, C: SerializerConfig> Deserializer<R, C> {
                         return Err(refusal_in(refusal));
                     }
                 }
-                let values = match F::finish(slots) {
-                    Ok(values) => values,
-                    Err(place) => return Err(Error::missing_field(names[place])),
+                let mut missing = 0;
+                let values = match F::finish(slots, &mut missing) {
+                    Some(values) => values,
+                    None => return Err(Error::missing_field(names[missing])),
                 };
                 match map.end() {
                     Ok(()) => Ok(values),
@@ -637,6 +622,8 @@ impl<R: Source, C: SerializerConfig> Deserializer<R, C> {
 }
 
 impl<'x, R: Source, C: SerializerConfig> MapAccess<'x, R, C> {
+    ghost use Rattle.rmp_decode.specs.FieldReads.{NextPlace};
+
     // Reads the next key, and returns the place of its name, or the number of names if it is none of them. An error is
     // put into `refusal`, so that no read has room for an error in its result.
     #[inline(always)]
@@ -645,15 +632,7 @@ impl<'x, R: Source, C: SerializerConfig> MapAccess<'x, R, C> {
         R: ReadSlice<'de>,
         requires still { IsMapOpen self.old }
         requires more { 0 < pairs_left self.old }
-        ensures same_reference { map_reference self.new ≡ map_reference self.old }
-        ensures ok { IfSome result (TakesKey R.Source (IsBelow (bytes_of names.now)) self.old self.new) }
-        ensures within { IfSome result (λ n. n ≤ length names.now) }
-        ensures some { IfNone result (refusal.new ≢ None) }
-        ensures err { IfNone result (IfSome refusal.new (FailsPart R.Source (IsName (bytes_of names.now)) (map_inner self.old) (map_lender self.old)
-            (map_lender self.new))) }
-        ensures refused { IfNone result (IfSome refusal.new
-            (KeyRefused R.Source (C.human (config_of (map_lender self.old))) R.lends name_refusal self.old self.new)) }
-        ensures memory { R.lends ≡ true → IfNone result (IfSome refusal.new (λ e. e ≢ Error.OutOfMemory)) }
+        ensures { NextPlace R.Source C.human R.lends (bytes_of names.now) self.old self.new refusal.new result }
     {
         match self.de.take_name(names, false) {
             Some(place) => {

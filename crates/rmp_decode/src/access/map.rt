@@ -5,7 +5,6 @@ ghost use Rattle.rmp_decode.specs.MapRefusing.{EntryRefused, KeyRefused};
 ghost use Rattle.rmp_decode.specs.Maps.{IsMapOpen, AtKey, AtValue, TakesKey, TakesValue, pairs_left, pairs_in, owes_value, is_map_sound, map_lender, map_reference};
 ghost use Rattle.rmp_decode.specs.Maps.{map_inner};
 ghost use Rattle.rmp_decode.specs.Parts.{FailsPart};
-ghost use Rattle.rmp_decode.specs.State.{config_of};
 ghost use Rattle.std.specs.Fn.{FnOnceTakesAtMut};
 ghost use Rattle.rmp_decode.specs.With.{part_reader, part_room, KeyRead, ValueRead};
 
@@ -54,12 +53,12 @@ impl<'x, R: Source, C: SerializerConfig> MapAccess<'x, R, C> {
         requires { AtKey self.old }
         ensures same_reference { map_reference self.new ≡ map_reference self.old }
         ensures none { IfOk result (λ o. IfNone o ((pairs_left self.old ≡ 0) × (self.new ≡ self.old))) }
-        ensures some { IfOk result (λ o. IfSome o (TakesKey R.Source (K.reads (C.human (config_of (map_lender self.old))) R.lends) self.old self.new)) }
+        ensures some { IfOk result (λ o. IfSome o (TakesKey R.Source (K.reads C.human R.lends) self.old self.new)) }
         ensures err { is_map_sound self.old ≡ true → IfErr result
-            (λ e. (0 < pairs_left self.old) × FailsPart R.Source (K.reads (C.human (config_of (map_lender self.old))) R.lends) (map_inner self.old)
+            (λ e. (0 < pairs_left self.old) × FailsPart R.Source (K.reads C.human R.lends) (map_inner self.old)
             (map_lender self.old) (map_lender self.new) e) }
         ensures refused { is_map_sound self.old ≡ true → IfErr result
-            (KeyRefused R.Source (C.human (config_of (map_lender self.old))) R.lends K.refuses self.old self.new) }
+            (KeyRefused R.Source C.human R.lends K.refuses self.old self.new) }
         ensures memory { K.takes_memory R.lends ≡ false → IfErr result (λ e. e ≢ Error.OutOfMemory) }
         ensures failed { OnErr result (is_map_sound self.new ≡ false) }
         ensures before { is_map_sound self.old ≡ false → MatchResult result (λ _. ⊥) IsFailedBefore × (self.new ≡ self.old) }
@@ -89,12 +88,12 @@ impl<'x, R: Source, C: SerializerConfig> MapAccess<'x, R, C> {
         R: ReadSlice<'de>,
         requires { AtValue self.old }
         ensures same_reference { map_reference self.new ≡ map_reference self.old }
-        ensures ok { IfOk result (TakesValue R.Source (V.reads (C.human (config_of (map_lender self.old))) R.lends) self.old self.new) }
+        ensures ok { IfOk result (TakesValue R.Source (V.reads C.human R.lends) self.old self.new) }
         ensures err { is_map_sound self.old ≡ true → IfErr result
-            (FailsPart R.Source (V.reads (C.human (config_of (map_lender self.old))) R.lends) (map_inner self.old) (map_lender self.old)
+            (FailsPart R.Source (V.reads C.human R.lends) (map_inner self.old) (map_lender self.old)
             (map_lender self.new)) }
         ensures refused { is_map_sound self.old ≡ true → IfErr result
-            (EntryRefused R.Source (C.human (config_of (map_lender self.old))) R.lends V.refuses self.old self.new) }
+            (EntryRefused R.Source C.human R.lends V.refuses self.old self.new) }
         ensures memory { V.takes_memory R.lends ≡ false → IfErr result (λ e. e ≢ Error.OutOfMemory) }
         ensures failed { OnErr result (is_map_sound self.new ≡ false) }
         ensures before { is_map_sound self.old ≡ false → MatchResult result (λ _. ⊥) IsFailedBefore × (self.new ≡ self.old) }

@@ -1,9 +1,8 @@
 //! Reads the names of fields.
-ghost use Rattle.std.specs.Prelude.{◌≡◌, ◌<◌, ◌≤◌, ℕ, Bool, true, length, IfSome, IfNone};
+ghost use Rattle.std.specs.Prelude.{◌≡◌, ◌<◌, ◌≤◌, Bool, true, length, IfSome};
 ghost use Rattle.rmp_decode.specs.Kinds.{raw_head};
 ghost use Rattle.rmp_decode.specs.Names.{bytes_of, place_of, place_below};
-ghost use Rattle.rmp_decode.specs.NamesAhead.{below, IsBelow, TextIn};
-ghost use Rattle.rmp_decode.specs.Parts.{TakesPart};
+ghost use Rattle.rmp_decode.specs.NamesAhead.{below, TakesNameAhead, TextIn};
 ghost use Rattle.rmp_decode.specs.Payloads.{TakesPayload, a_name};
 ghost use Rattle.rmp_decode.specs.State.{is_failed, kept_of};
 ghost use Rattle.rmp_decode.specs.declared.deserializer.Kept.TheVariants.{Nothing};
@@ -96,10 +95,7 @@ impl<R: Source, C: SerializerConfig> Deserializer<R, C> {
     pub(crate) fn take_name(&mut self, names: &[&str], only_names: bool) -> Option<usize>
         requires marked { is_failed self.old ≡ true }
         requires clean { kept_of self.old ≡ Nothing }
-        ensures taken { IfSome result (λ n. (inner : ℕ) → 0 < inner → TakesPart R.Source (IsBelow (bytes_of names.now)) inner self.old self.new n) }
-        ensures within { IfSome result (λ n. n ≤ length names.now) }
-        ensures named { only_names ≡ true → IfSome result (λ n. n < length names.now) }
-        ensures kept { IfNone result (self.new ≡ self.old) }
+        ensures { TakesNameAhead R.Source names.now only_names self.old self.new result }
     {
         match name_at(self.reader.front(), self.strict, names) {
             Some((place, len)) => {

@@ -11,7 +11,8 @@ ghost use Rattle.rmp_decode.specs.Variants.{OpensVariant, FailsToOpenVariant, va
 
 use crate::access::field_access::FieldAccess;
 use crate::access::map::MapAccess;
-use crate::access::seq::{SeqAccess, inner_room};
+use crate::access::parts::inner_room;
+use crate::access::seq::SeqAccess;
 use crate::access::variant::Variant;
 use crate::content::{ReadContent, Slices};
 use crate::deserializer::Deserializer;
@@ -188,7 +189,7 @@ impl<R: Source, C: SerializerConfig> Deserializer<R, C> {
                 de: self,
                 left,
                 count: left,
-                inner: room.saturating_sub(1),
+                inner: inner_room(room, false),
                 owes: false,
                 sound: true,
             }),
@@ -243,30 +244,21 @@ impl<R: Source, C: SerializerConfig> Deserializer<R, C> {
     {
         let room = self.room;
         match self.open_struct() {
-            Ok((Some(bytes), left)) => Ok(FieldAccess {
-                de: self,
-                names,
-                left,
-                count: left,
-                inner: inner_room(room, bytes),
-                is_map: false,
-                bytes,
-                owes: false,
-                sound: true,
-                met: 0,
-            }),
-            Ok((None, left)) => Ok(FieldAccess {
-                de: self,
-                names,
-                left,
-                count: left,
-                inner: room.saturating_sub(1),
-                is_map: true,
-                bytes: false,
-                owes: false,
-                sound: true,
-                met: 0,
-            }),
+            Ok((kind, left)) => {
+                let bytes = kind.unwrap_or(false);
+                Ok(FieldAccess {
+                    de: self,
+                    names,
+                    left,
+                    count: left,
+                    inner: inner_room(room, bytes),
+                    is_map: kind.is_none(),
+                    bytes,
+                    owes: false,
+                    sound: true,
+                    met: 0,
+                })
+            }
             Err(e) => Err(e),
         }
     }
@@ -315,7 +307,7 @@ impl<R: Source, C: SerializerConfig> Deserializer<R, C> {
         ensures below { IfOk result (λ p. p.0 < length names.now) }
         ensures memory { P.lends ≡ true → IfErr result (λ e. e ≢ Error.OutOfMemory) }
     {
-        let inner = self.room.saturating_sub(1);
+        let inner = inner_room(self.room, false);
         match self.open_variant::<P>(names) {
             Ok((place, bare)) => Ok((
                 place,

@@ -1,10 +1,9 @@
 //! What accesses share: one part of a list or a map, read with the depth that is left for parts, and the end.
-ghost use Rattle.std.specs.Prelude.{◌≡◌, ◌≢◌, ◌<◌, ◌-◌, IfOk, IfErr, MatchResult, OnOk, false, true, max};
+ghost use Rattle.std.specs.Prelude.{◌≡◌, ◌<◌, ◌-◌, IfErr, MatchResult, OnOk, false, true, max};
 ghost use Rattle.std.specs.Fn.{FnOnceTakesAtMut};
 ghost use Rattle.rmp_decode.specs.Law.{IsFailedBefore};
-ghost use Rattle.rmp_decode.specs.MapRefusing.{PartRefused};
-ghost use Rattle.rmp_decode.specs.Parts.{TakesPart, FailsPart};
-ghost use Rattle.rmp_decode.specs.State.{config_of, levels_outside};
+ghost use Rattle.rmp_decode.specs.MapRefusing.{ReadsPart};
+ghost use Rattle.rmp_decode.specs.State.{levels_outside};
 ghost use Rattle.rmp_decode.specs.With.{part_reader, PartGiven};
 
 use crate::de::Deserialize;
@@ -13,6 +12,15 @@ use crate::error::Error;
 use crate::text::Text;
 use rmp_wire::config::SerializerConfig;
 use rmp_wire::{ReadSlice, Source};
+
+// How deep the parts of a list or a map may nest. Bytes are no level of nesting.
+#[inline(always)]
+pub(crate) fn inner_room(room: u32, bytes: bool) -> u32
+    ensures bytes { bytes ≡ true → result ≡ room }
+    ensures list { bytes ≡ false → result ≡ room - 1 }
+{
+    if bytes { room } else { room.saturating_sub(1) }
+}
 
 // Adds the levels between the room outside of a part that was refused and the room in it.
 #[inline(always)]
@@ -28,10 +36,7 @@ impl<R: Source, C: SerializerConfig> Deserializer<R, C> {
     pub(crate) fn part<'de, T: Deserialize<'de, R>>(&mut self, inner: u32) -> Result<T, Error>
     where
         R: ReadSlice<'de>,
-        ensures ok { IfOk result (TakesPart R.Source (T.reads (C.human (config_of self.old)) R.lends) (max 1 inner) self.old self.new) }
-        ensures err { IfErr result (FailsPart R.Source (T.reads (C.human (config_of self.old)) R.lends) (max 1 inner) self.old self.new) }
-        ensures refused { IfErr result (PartRefused R.Source (C.human (config_of self.old)) R.lends T.refuses (max 1 inner) self.old self.new) }
-        ensures memory { T.takes_memory R.lends ≡ false → IfErr result (λ e. e ≢ Error.OutOfMemory) }
+        ensures { ReadsPart R.Source C.human R.lends T.reads T.refuses (T.takes_memory R.lends ≡ false) (max 1 inner) self.old self.new result }
     {
         let outer = self.room;
         self.room = inner;

@@ -1,12 +1,11 @@
 //! Reads of 2 to 12 fields, whose contracts name each field's part in one list. Written by tools/tuples.py.
 ghost use Rattle.std.specs.Option.{is_none};
-ghost use Rattle.std.specs.Prelude.{◌≡◌, ◌∷◌, [], length, IfErr};
+ghost use Rattle.std.specs.Prelude.{◌≡◌, ◌∷◌, [], length};
 ghost use Rattle.rmp_decode.specs.FieldRefusing.{RefusesFields};
 ghost use Rattle.rmp_decode.specs.Fields.{OfFields};
 ghost use Rattle.rmp_decode.specs.Law.{Lawful};
 ghost use Rattle.rmp_decode.specs.Names.{bytes_of};
 ghost use Rattle.rmp_decode.specs.Refusing.{RefusesAs, part_of};
-ghost use Rattle.rmp_decode.specs.State.{config_of};
 ghost use Rattle.rmp_decode.specs.ReadFields.{reads_2, reads_3, reads_4, reads_5, reads_6, reads_7, reads_8, reads_9};
 ghost use Rattle.rmp_decode.specs.ReadFields.{reads_10, reads_11, reads_12};
 
@@ -29,9 +28,9 @@ pub fn read_fields_2<
     P1: Deserialize<'de, R>,
 >(de: &mut Deserializer<R, C>, names: &[&str]) -> Result<(P0, (P1, ())), Error>
     requires count { length names.now ≡ 2 }
-    ensures law { Lawful R.Source (λ m v. OfFields (bytes_of names.now)
-        (λ fs. reads_2 P0.reads P0.absent P1.reads P1.absent (C.human (config_of de.old)) R.lends fs v) m) de.old de.new result }
-    ensures refused { RefusesAs R.Source (C.human (config_of de.old)) R.lends
+    ensures law { Lawful R.Source (λ m v. OfFields (bytes_of names.now) (λ fs. reads_2 P0.reads P0.absent P1.reads P1.absent C.human R.lends fs v) m) de.old
+        de.new result }
+    ensures refused { RefusesAs R.Source C.human R.lends
         (RefusesFields (bytes_of names.now) (is_none P0.absent ∷ (is_none P1.absent ∷ []))
         (part_of P0.reads P0.refuses ∷ (part_of P1.reads P1.refuses ∷ []))) de.old de.new result }
 {
@@ -53,8 +52,8 @@ pub fn read_fields_3<
 >(de: &mut Deserializer<R, C>, names: &[&str]) -> Result<(P0, (P1, (P2, ()))), Error>
     requires count { length names.now ≡ 3 }
     ensures law { Lawful R.Source (λ m v. OfFields (bytes_of names.now)
-        (λ fs. reads_3 P0.reads P0.absent P1.reads P1.absent P2.reads P2.absent (C.human (config_of de.old)) R.lends fs v) m) de.old de.new result }
-    ensures refused { RefusesAs R.Source (C.human (config_of de.old)) R.lends
+        (λ fs. reads_3 P0.reads P0.absent P1.reads P1.absent P2.reads P2.absent C.human R.lends fs v) m) de.old de.new result }
+    ensures refused { RefusesAs R.Source C.human R.lends
         (RefusesFields (bytes_of names.now) (is_none P0.absent ∷ (is_none P1.absent ∷ (is_none P2.absent ∷ [])))
         (part_of P0.reads P0.refuses ∷ (part_of P1.reads P1.refuses ∷ (part_of P2.reads P2.refuses ∷ [])))) de.old de.new result }
 {
@@ -77,9 +76,8 @@ pub fn read_fields_4<
 >(de: &mut Deserializer<R, C>, names: &[&str]) -> Result<(P0, P1, P2, P3, ()), Error>
     requires count { length names.now ≡ 4 }
     ensures law { Lawful R.Source (λ m v. OfFields (bytes_of names.now)
-        (λ fs. reads_4 P0.reads P0.absent P1.reads P1.absent P2.reads P2.absent P3.reads P3.absent (C.human (config_of de.old)) R.lends fs v) m) de.old
-        de.new result }
-    ensures refused { RefusesAs R.Source (C.human (config_of de.old)) R.lends
+        (λ fs. reads_4 P0.reads P0.absent P1.reads P1.absent P2.reads P2.absent P3.reads P3.absent C.human R.lends fs v) m) de.old de.new result }
+    ensures refused { RefusesAs R.Source C.human R.lends
         (RefusesFields (bytes_of names.now) (is_none P0.absent ∷ (is_none P1.absent ∷ (is_none P2.absent ∷ (is_none P3.absent ∷ []))))
         (part_of P0.reads P0.refuses ∷ (part_of P1.reads P1.refuses ∷ (part_of P2.reads P2.refuses ∷ (part_of P3.reads P3.refuses ∷ []))))) de.old de.new
         result }
@@ -104,9 +102,9 @@ pub fn read_fields_5<
 >(de: &mut Deserializer<R, C>, names: &[&str]) -> Result<(P0, P1, P2, P3, (P4, ())), Error>
     requires count { length names.now ≡ 5 }
     ensures law { Lawful R.Source (λ m v. OfFields (bytes_of names.now)
-        (λ fs. reads_5 P0.reads P0.absent P1.reads P1.absent P2.reads P2.absent P3.reads P3.absent P4.reads P4.absent (C.human (config_of de.old)) R.lends
-        fs v) m) de.old de.new result }
-    ensures refused { RefusesAs R.Source (C.human (config_of de.old)) R.lends
+        (λ fs. reads_5 P0.reads P0.absent P1.reads P1.absent P2.reads P2.absent P3.reads P3.absent P4.reads P4.absent C.human R.lends fs v) m) de.old de.new
+        result }
+    ensures refused { RefusesAs R.Source C.human R.lends
         (RefusesFields (bytes_of names.now) (is_none P0.absent ∷ (is_none P1.absent ∷ (is_none P2.absent ∷ (is_none P3.absent ∷ (is_none P4.absent ∷ [])))))
         (part_of P0.reads P0.refuses ∷ (part_of P1.reads P1.refuses
         ∷ (part_of P2.reads P2.refuses ∷ (part_of P3.reads P3.refuses ∷ (part_of P4.reads P4.refuses ∷ [])))))) de.old de.new result }
@@ -132,9 +130,9 @@ pub fn read_fields_6<
 >(de: &mut Deserializer<R, C>, names: &[&str]) -> Result<(P0, P1, P2, P3, (P4, (P5, ()))), Error>
     requires count { length names.now ≡ 6 }
     ensures law { Lawful R.Source (λ m v. OfFields (bytes_of names.now)
-        (λ fs. reads_6 P0.reads P0.absent P1.reads P1.absent P2.reads P2.absent P3.reads P3.absent P4.reads P4.absent P5.reads P5.absent
-        (C.human (config_of de.old)) R.lends fs v) m) de.old de.new result }
-    ensures refused { RefusesAs R.Source (C.human (config_of de.old)) R.lends
+        (λ fs. reads_6 P0.reads P0.absent P1.reads P1.absent P2.reads P2.absent P3.reads P3.absent P4.reads P4.absent P5.reads P5.absent C.human R.lends fs
+        v) m) de.old de.new result }
+    ensures refused { RefusesAs R.Source C.human R.lends
         (RefusesFields (bytes_of names.now) (is_none P0.absent
         ∷ (is_none P1.absent ∷ (is_none P2.absent ∷ (is_none P3.absent ∷ (is_none P4.absent ∷ (is_none P5.absent ∷ []))))))
         (part_of P0.reads P0.refuses ∷ (part_of P1.reads P1.refuses
@@ -167,8 +165,8 @@ pub fn read_fields_7<
     requires count { length names.now ≡ 7 }
     ensures law { Lawful R.Source (λ m v. OfFields (bytes_of names.now)
         (λ fs. reads_7 P0.reads P0.absent P1.reads P1.absent P2.reads P2.absent P3.reads P3.absent P4.reads P4.absent P5.reads P5.absent P6.reads P6.absent
-        (C.human (config_of de.old)) R.lends fs v) m) de.old de.new result }
-    ensures refused { RefusesAs R.Source (C.human (config_of de.old)) R.lends
+        C.human R.lends fs v) m) de.old de.new result }
+    ensures refused { RefusesAs R.Source C.human R.lends
         (RefusesFields (bytes_of names.now) (is_none P0.absent
         ∷ (is_none P1.absent ∷ (is_none P2.absent ∷ (is_none P3.absent ∷ (is_none P4.absent ∷ (is_none P5.absent ∷ (is_none P6.absent ∷ [])))))))
         (part_of P0.reads P0.refuses ∷ (part_of P1.reads P1.refuses
@@ -202,8 +200,8 @@ pub fn read_fields_8<
     requires count { length names.now ≡ 8 }
     ensures law { Lawful R.Source (λ m v. OfFields (bytes_of names.now)
         (λ fs. reads_8 P0.reads P0.absent P1.reads P1.absent P2.reads P2.absent P3.reads P3.absent P4.reads P4.absent P5.reads P5.absent P6.reads P6.absent
-        P7.reads P7.absent (C.human (config_of de.old)) R.lends fs v) m) de.old de.new result }
-    ensures refused { RefusesAs R.Source (C.human (config_of de.old)) R.lends
+        P7.reads P7.absent C.human R.lends fs v) m) de.old de.new result }
+    ensures refused { RefusesAs R.Source C.human R.lends
         (RefusesFields (bytes_of names.now) (is_none P0.absent
         ∷ (is_none P1.absent ∷ (is_none P2.absent ∷ (is_none P3.absent
         ∷ (is_none P4.absent ∷ (is_none P5.absent ∷ (is_none P6.absent ∷ (is_none P7.absent ∷ []))))))))
@@ -240,8 +238,8 @@ pub fn read_fields_9<
     requires count { length names.now ≡ 9 }
     ensures law { Lawful R.Source (λ m v. OfFields (bytes_of names.now)
         (λ fs. reads_9 P0.reads P0.absent P1.reads P1.absent P2.reads P2.absent P3.reads P3.absent P4.reads P4.absent P5.reads P5.absent P6.reads P6.absent
-        P7.reads P7.absent P8.reads P8.absent (C.human (config_of de.old)) R.lends fs v) m) de.old de.new result }
-    ensures refused { RefusesAs R.Source (C.human (config_of de.old)) R.lends
+        P7.reads P7.absent P8.reads P8.absent C.human R.lends fs v) m) de.old de.new result }
+    ensures refused { RefusesAs R.Source C.human R.lends
         (RefusesFields (bytes_of names.now) (is_none P0.absent
         ∷ (is_none P1.absent ∷ (is_none P2.absent ∷ (is_none P3.absent
         ∷ (is_none P4.absent ∷ (is_none P5.absent ∷ (is_none P6.absent ∷ (is_none P7.absent ∷ (is_none P8.absent ∷ [])))))))))
@@ -279,8 +277,8 @@ pub fn read_fields_10<
     requires count { length names.now ≡ 10 }
     ensures law { Lawful R.Source (λ m v. OfFields (bytes_of names.now)
         (λ fs. reads_10 P0.reads P0.absent P1.reads P1.absent P2.reads P2.absent P3.reads P3.absent P4.reads P4.absent P5.reads P5.absent P6.reads P6.absent
-        P7.reads P7.absent P8.reads P8.absent P9.reads P9.absent (C.human (config_of de.old)) R.lends fs v) m) de.old de.new result }
-    ensures refused { RefusesAs R.Source (C.human (config_of de.old)) R.lends
+        P7.reads P7.absent P8.reads P8.absent P9.reads P9.absent C.human R.lends fs v) m) de.old de.new result }
+    ensures refused { RefusesAs R.Source C.human R.lends
         (RefusesFields (bytes_of names.now) (is_none P0.absent
         ∷ (is_none P1.absent ∷ (is_none P2.absent ∷ (is_none P3.absent
         ∷ (is_none P4.absent ∷ (is_none P5.absent ∷ (is_none P6.absent ∷ (is_none P7.absent ∷ (is_none P8.absent ∷ (is_none P9.absent ∷ []))))))))))
@@ -320,8 +318,8 @@ pub fn read_fields_11<
     requires count { length names.now ≡ 11 }
     ensures law { Lawful R.Source (λ m v. OfFields (bytes_of names.now)
         (λ fs. reads_11 P0.reads P0.absent P1.reads P1.absent P2.reads P2.absent P3.reads P3.absent P4.reads P4.absent P5.reads P5.absent P6.reads P6.absent
-        P7.reads P7.absent P8.reads P8.absent P9.reads P9.absent P10.reads P10.absent (C.human (config_of de.old)) R.lends fs v) m) de.old de.new result }
-    ensures refused { RefusesAs R.Source (C.human (config_of de.old)) R.lends
+        P7.reads P7.absent P8.reads P8.absent P9.reads P9.absent P10.reads P10.absent C.human R.lends fs v) m) de.old de.new result }
+    ensures refused { RefusesAs R.Source C.human R.lends
         (RefusesFields (bytes_of names.now) (is_none P0.absent
         ∷ (is_none P1.absent ∷ (is_none P2.absent ∷ (is_none P3.absent
         ∷ (is_none P4.absent ∷ (is_none P5.absent ∷ (is_none P6.absent
@@ -363,9 +361,8 @@ pub fn read_fields_12<
     requires count { length names.now ≡ 12 }
     ensures law { Lawful R.Source (λ m v. OfFields (bytes_of names.now)
         (λ fs. reads_12 P0.reads P0.absent P1.reads P1.absent P2.reads P2.absent P3.reads P3.absent P4.reads P4.absent P5.reads P5.absent P6.reads P6.absent
-        P7.reads P7.absent P8.reads P8.absent P9.reads P9.absent P10.reads P10.absent P11.reads P11.absent (C.human (config_of de.old)) R.lends fs v) m)
-        de.old de.new result }
-    ensures refused { RefusesAs R.Source (C.human (config_of de.old)) R.lends
+        P7.reads P7.absent P8.reads P8.absent P9.reads P9.absent P10.reads P10.absent P11.reads P11.absent C.human R.lends fs v) m) de.old de.new result }
+    ensures refused { RefusesAs R.Source C.human R.lends
         (RefusesFields (bytes_of names.now) (is_none P0.absent
         ∷ (is_none P1.absent ∷ (is_none P2.absent ∷ (is_none P3.absent
         ∷ (is_none P4.absent ∷ (is_none P5.absent ∷ (is_none P6.absent

@@ -1,13 +1,11 @@
 //! Lists, and bytes as the lists of their numbers, element by element.
 ghost use Rattle.std.specs.Prelude.{◌≡◌, ◌≢◌, ◌-◌, ◌<◌, ◌∷◌, ℕ, List, true, false, IfSome, IfNone, IfOk, IfErr, OnOk, OnErr, MatchResult, ◌⊎◌, Ok};
 ghost use Rattle.std.specs.Prelude.{None};
-ghost use Rattle.std.specs.Io.KnownBytes.{IsAtEnd};
-ghost use Rattle.rmp_decode.specs.Law.{Explains, IsFailedBefore};
-ghost use Rattle.rmp_decode.specs.Exact.{IsDataEnd};
-ghost use Rattle.rmp_decode.specs.Refusing.{element_setting, ElementRefused, WhereSome, Wanted};
-ghost use Rattle.rmp_decode.specs.Seq.{IsOpen, TakesElement, FailsToTake, FailsElement, KeepsByte, left_in, count_in, in_bytes, is_sound, lender_of, reference_of};
-ghost use Rattle.rmp_decode.specs.State.{left, faults_of, config_of, is_failed, Stays};
-ghost use Rattle.rmp_decode.specs.With.{OffersPart, CanRead, PartRead, PartMissing, SameList};
+ghost use Rattle.rmp_decode.specs.Law.{IsFailedBefore};
+ghost use Rattle.rmp_decode.specs.Refusing.{ElementRefused, WhereSome, Wanted, ReadsElement};
+ghost use Rattle.rmp_decode.specs.Seq.{IsOpen, TakesElement, FailsToTake, FailsElement, left_in, count_in, in_bytes, is_sound, lender_of, reference_of};
+ghost use Rattle.rmp_decode.specs.State.{left, is_failed};
+ghost use Rattle.rmp_decode.specs.With.{CanRead, PartRead, PartMissing, SameList, Offers, OffersAhead};
 
 use crate::de::Deserialize;
 use crate::deserializer::{Deserializer, Kept};
@@ -33,11 +31,7 @@ impl<R: Source, C: SerializerConfig> Deserializer<R, C> {
     // Consumes a buffered byte, and keeps it back as a number. Returns `false` and consumes nothing otherwise.
     #[inline(always)]
     fn keep_buffered(&mut self) -> bool
-        ensures ok { result ≡ true → KeepsByte R.Source self.old self.new }
-        ensures sound { result ≡ true → faults_of R.Source self.new ≡ faults_of R.Source self.old }
-        ensures stays { result ≡ true → Stays R.Source self.old self.new }
-        ensures failed { result ≡ true → is_failed self.new ≡ is_failed self.old }
-        ensures kept { result ≡ false → self.new ≡ self.old }
+        ensures { OffersAhead R.Source self.old self.new result }
     {
         match first_of(self.reader.front()) {
             Some(byte) => {
@@ -52,37 +46,18 @@ impl<R: Source, C: SerializerConfig> Deserializer<R, C> {
         }
     }
 
-    // Consumes a byte, and keeps it back as a number. The fast path is for a buffered byte, and makes no error.
+    // Prepares the next element: where bytes are read as a list, a byte is kept back as a number. It returns only the
+    // source's fault, since a larger error would be copied for each element. The fast path is for a buffered byte.
     #[inline(always)]
-    pub(crate) fn keep_byte(&mut self) -> Result<(), Error>
-        ensures ok { OnOk result (KeepsByte R.Source self.old self.new) }
-        ensures sound { OnOk result (faults_of R.Source self.new ≡ faults_of R.Source self.old) }
-        ensures stays { Stays R.Source self.old self.new }
-        ensures failed { is_failed self.new ≡ is_failed self.old }
-        ensures err { IfErr result (λ e. Explains e (faults_of R.Source self.old) (faults_of R.Source self.new) (IsAtEnd (R.ahead self.old.reader))) }
-        ensures end { IfErr result (λ e. faults_of R.Source self.new ≡ faults_of R.Source self.old → IsDataEnd e) }
-        ensures memory { IfErr result (λ e. e ≢ Error.OutOfMemory) }
+    pub(crate) fn offer_part(&mut self, bytes: bool) -> Result<(), IoFault>
+        ensures { Offers R.Source bytes self.old self.new result }
     {
+        if !bytes {
+            return Ok(());
+        }
         if self.keep_buffered() {
             return Ok(());
         }
-        match self.pull_byte() {
-            Ok(()) => Ok(()),
-            Err(fault) => Err(data_fault(fault)),
-        }
-    }
-
-    // Pulls a byte from the source, and keeps it back as a number. The error is only the source's fault.
-    #[inline(always)]
-    fn pull_byte(&mut self) -> Result<(), IoFault>
-        ensures ok { OnOk result (KeepsByte R.Source self.old self.new) }
-        ensures sound { OnOk result (faults_of R.Source self.new ≡ faults_of R.Source self.old) }
-        ensures stays { Stays R.Source self.old self.new }
-        ensures failed { is_failed self.new ≡ is_failed self.old }
-        ensures err { IfErr result (λ f. Explains (Error.InvalidDataRead f) (faults_of R.Source self.old) (faults_of R.Source self.new)
-            (IsAtEnd (R.ahead self.old.reader))) }
-        ensures end { IfErr result (λ f. faults_of R.Source self.new ≡ faults_of R.Source self.old → IsDataEnd (Error.InvalidDataRead f)) }
-    {
         match self.reader.take_1() {
             Ok(bytes) => {
                 self.kept = Kept::Number(bytes[0]);
@@ -91,33 +66,11 @@ impl<R: Source, C: SerializerConfig> Deserializer<R, C> {
             Err(fault) => Err(fault),
         }
     }
-
-    // Prepares the next element: where bytes are read as a list, a byte is kept back as a number. It returns only the
-    // source's fault, since a larger error would be copied for each element.
-    #[inline(always)]
-    pub(crate) fn offer_part(&mut self, bytes: bool) -> Result<(), IoFault>
-        ensures ok { OnOk result (OffersPart R.Source bytes self.old self.new) }
-        ensures bytes { OnErr result (bytes ≡ true) }
-        ensures sound { OnOk result (faults_of R.Source self.new ≡ faults_of R.Source self.old) }
-        ensures stays { Stays R.Source self.old self.new }
-        ensures failed { is_failed self.new ≡ is_failed self.old }
-        ensures err { IfErr result (λ f. Explains (Error.InvalidDataRead f) (faults_of R.Source self.old) (faults_of R.Source self.new)
-            (IsAtEnd (R.ahead self.old.reader))) }
-        ensures end { IfErr result (λ f. faults_of R.Source self.new ≡ faults_of R.Source self.old → IsDataEnd (Error.InvalidDataRead f)) }
-    {
-        if !bytes {
-            return Ok(());
-        }
-        if self.keep_buffered() {
-            return Ok(());
-        }
-        self.pull_byte()
-    }
 }
 
 // The first byte of some.
 #[inline(always)]
-fn first_of(front: &[u8]) -> Option<u8>
+pub(crate) fn first_of(front: &[u8]) -> Option<u8>
     ensures { IfSome result (λ byte. (rest : List ℕ) × (front.now ≡ byte ∷ rest)) }
 {
     match front {
@@ -135,14 +88,6 @@ pub(crate) fn data_fault(fault: IoFault) -> Error
     Error::InvalidDataRead(fault)
 }
 
-// How deep an element may nest. Bytes are no level of nesting.
-pub(crate) fn inner_room(room: u32, bytes: bool) -> u32
-    ensures bytes { bytes ≡ true → result ≡ room }
-    ensures list { bytes ≡ false → result ≡ room - 1 }
-{
-    if bytes { room } else { room.saturating_sub(1) }
-}
-
 impl<'x, R: Source, C: SerializerConfig> SeqAccess<'x, R, C> {
     /// Returns how many elements remain.
     pub fn left(&self) -> u32
@@ -151,53 +96,18 @@ impl<'x, R: Source, C: SerializerConfig> SeqAccess<'x, R, C> {
         self.left
     }
 
-    // Reads an element of a list.
-    #[inline(always)]
-    fn listed<'de, T: Deserialize<'de, R>>(&mut self) -> Result<T, Error>
-    where
-        R: ReadSlice<'de>,
-        requires some { 0 < left_in self.old }
-        requires list { in_bytes self.old ≡ false }
-        ensures same_reference { reference_of self.new ≡ reference_of self.old }
-        ensures ok { IsOpen self.old → IfOk result (TakesElement R.Source (T.reads (C.human (config_of (lender_of self.old))) R.lends) self.old self.new) }
-        ensures err { IsOpen self.old → IfErr result (FailsToTake R.Source (T.reads (C.human (config_of (lender_of self.old))) R.lends) self.old self.new) }
-        ensures refused { IsOpen self.old → IfErr result (T.refuses (element_setting (C.human (config_of (lender_of self.old))) R.lends self.old)
-            (faults_of R.Source (lender_of self.old)) (faults_of R.Source (lender_of self.new)) (left R.Source (lender_of self.old))) }
-        ensures memory { T.takes_memory R.lends ≡ false → IfErr result (λ e. e ≢ Error.OutOfMemory) }
-        ensures failed { OnErr result (is_sound self.new ≡ false) }
-        ensures marked { is_failed (lender_of self.old) ≡ true → is_failed (lender_of self.new) ≡ true }
-    {
-        self.sound = false;
-        match self.de.part(self.inner) {
-            Ok(v) => {
-                self.de.kept = Kept::Nothing;
-                self.left -= 1;
-                self.sound = true;
-                Ok(v)
-            }
-            Err(e) => Err(e),
-        }
-    }
-
     // Reads a byte as a number. It has no hint to inline, so that the read of a list's element stays small.
     fn numbered<'de, T: Deserialize<'de, R>>(&mut self) -> Result<T, Error>
     where
         R: ReadSlice<'de>,
         requires some { 0 < left_in self.old }
         requires bytes { in_bytes self.old ≡ true }
-        ensures same_reference { reference_of self.new ≡ reference_of self.old }
-        ensures ok { IsOpen self.old → IfOk result (TakesElement R.Source (T.reads (C.human (config_of (lender_of self.old))) R.lends) self.old self.new) }
-        ensures err { IsOpen self.old → IfErr result (FailsToTake R.Source (T.reads (C.human (config_of (lender_of self.old))) R.lends) self.old self.new) }
-        ensures refused { IsOpen self.old → IfErr result (ElementRefused R.Source (C.human (config_of (lender_of self.old))) R.lends T.refuses self.old
-            self.new (left R.Source (lender_of self.old))) }
-        ensures memory { T.takes_memory R.lends ≡ false → IfErr result (λ e. e ≢ Error.OutOfMemory) }
-        ensures failed { OnErr result (is_sound self.new ≡ false) }
-        ensures marked { is_failed (lender_of self.old) ≡ true → is_failed (lender_of self.new) ≡ true }
+        ensures { ReadsElement R.Source C.human R.lends T.reads T.refuses (T.takes_memory R.lends) self.old self.new result }
     {
         self.sound = false;
-        match self.de.keep_byte() {
+        match self.de.offer_part(true) {
             Ok(()) => {}
-            Err(e) => return Err(e),
+            Err(fault) => return Err(data_fault(fault)),
         }
         match self.de.part(self.inner) {
             Ok(v) => {
@@ -218,10 +128,10 @@ impl<'x, R: Source, C: SerializerConfig> SeqAccess<'x, R, C> {
         ensures same_reference { reference_of self.new ≡ reference_of self.old }
         ensures none { IsOpen self.old → IfOk result (λ o. IfNone o ((left_in self.old ≡ 0) × (self.new ≡ self.old))) }
         ensures some { IsOpen self.old → IfOk result (λ o. IfSome o
-            (TakesElement R.Source (T.reads (C.human (config_of (lender_of self.old))) R.lends) self.old self.new)) }
-        ensures err { IsOpen self.old → IfErr result (FailsToTake R.Source (T.reads (C.human (config_of (lender_of self.old))) R.lends) self.old self.new) }
+            (TakesElement R.Source (T.reads C.human R.lends) self.old self.new)) }
+        ensures err { IsOpen self.old → IfErr result (FailsToTake R.Source (T.reads C.human R.lends) self.old self.new) }
         ensures refused { IsOpen self.old → IfErr result (WhereSome
-            (ElementRefused R.Source (C.human (config_of (lender_of self.old))) R.lends T.refuses self.old self.new) (left_in self.old)
+            (ElementRefused R.Source C.human R.lends T.refuses self.old self.new) (left_in self.old)
             (left R.Source (lender_of self.old))) }
         ensures memory { T.takes_memory R.lends ≡ false → IfErr result (λ e. e ≢ Error.OutOfMemory) }
         ensures failed { OnErr result (is_sound self.new ≡ false) }
@@ -240,8 +150,14 @@ impl<'x, R: Source, C: SerializerConfig> SeqAccess<'x, R, C> {
                 Err(e) => Err(e),
             };
         }
-        match self.listed() {
-            Ok(v) => Ok(Some(v)),
+        self.sound = false;
+        match self.de.part(self.inner) {
+            Ok(v) => {
+                self.de.kept = Kept::Nothing;
+                self.left -= 1;
+                self.sound = true;
+                Ok(Some(v))
+            }
             Err(e) => Err(e),
         }
     }
@@ -255,10 +171,10 @@ impl<'x, R: Source, C: SerializerConfig> SeqAccess<'x, R, C> {
     where
         R: ReadSlice<'de>,
         ensures same_reference { reference_of self.new ≡ reference_of self.old }
-        ensures ok { IsOpen self.old → IfOk result (TakesElement R.Source (T.reads (C.human (config_of (lender_of self.old))) R.lends) self.old self.new) }
-        ensures err { IsOpen self.old → IfErr result (FailsElement R.Source (T.reads (C.human (config_of (lender_of self.old))) R.lends) self.old self.new) }
+        ensures ok { IsOpen self.old → IfOk result (TakesElement R.Source (T.reads C.human R.lends) self.old self.new) }
+        ensures err { IsOpen self.old → IfErr result (FailsElement R.Source (T.reads C.human R.lends) self.old self.new) }
         ensures refused { IsOpen self.old → IfErr result (Wanted
-            (ElementRefused R.Source (C.human (config_of (lender_of self.old))) R.lends T.refuses self.old self.new) (left_in self.old)
+            (ElementRefused R.Source C.human R.lends T.refuses self.old self.new) (left_in self.old)
             (left R.Source (lender_of self.old))) }
         ensures memory { T.takes_memory R.lends ≡ false → IfErr result (λ e. e ≢ Error.OutOfMemory) }
         ensures failed { OnErr result (is_sound self.new ≡ false) }
@@ -271,32 +187,6 @@ impl<'x, R: Source, C: SerializerConfig> SeqAccess<'x, R, C> {
                 self.sound = false;
                 Err(Error::Syntax(Text::InvalidLength))
             }
-            Err(e) => Err(e),
-        }
-    }
-
-    // Where bytes are read as a list, consumes the next byte and keeps it back as a number. Otherwise it does nothing.
-    #[inline(never)]
-    fn offer(&mut self) -> Result<(), Error>
-        ensures same_reference { reference_of self.new ≡ reference_of self.old }
-        ensures ok { OnOk result (OffersPart R.Source (in_bytes self.old) (lender_of self.old) (lender_of self.new)) }
-        ensures left { left_in self.new ≡ left_in self.old }
-        ensures list { SameList self.old self.new }
-        ensures sound { is_sound self.new ≡ false }
-        ensures room { (lender_of self.new).room ≡ (lender_of self.old).room }
-        ensures bytes { OnErr result (in_bytes self.old ≡ true) }
-        ensures stays { Stays R.Source (lender_of self.old) (lender_of self.new) }
-        ensures failed { is_failed (lender_of self.new) ≡ is_failed (lender_of self.old) }
-        ensures err { IfErr result (λ e. Explains e (faults_of R.Source (lender_of self.old)) (faults_of R.Source (lender_of self.new))
-            (IsAtEnd (R.ahead (lender_of self.old).reader))) }
-        ensures end { IfErr result (λ e. faults_of R.Source (lender_of self.new) ≡ faults_of R.Source (lender_of self.old) → IsDataEnd e) }
-    {
-        self.sound = false;
-        if !self.bytes {
-            return Ok(());
-        }
-        match self.de.keep_byte() {
-            Ok(()) => Ok(()),
             Err(e) => Err(e),
         }
     }
@@ -328,9 +218,10 @@ impl<'x, R: Source, C: SerializerConfig> SeqAccess<'x, R, C> {
         if self.left == 0 {
             return Ok(None);
         }
-        match self.offer() {
+        self.sound = false;
+        match self.de.offer_part(self.bytes) {
             Ok(()) => {}
-            Err(e) => return Err(e),
+            Err(fault) => return Err(data_fault(fault)),
         }
         match self.de.part_with(self.inner, f) {
             Ok(part) => {

@@ -1,11 +1,9 @@
 //! Characters, decoded in the buffer.
-ghost use Rattle.std.specs.Prelude.{◌≡◌, ◌∷◌, [], Bool, IfSome, IfNone, length, encode_utf8};
-ghost use Rattle.std.specs.Char.{IsScalar};
-ghost use Rattle.std.specs.Io.KnownBytes.{Consumes};
-ghost use Rattle.rmp_wire.specs.Spelling.{IsBytes};
-ghost use Rattle.rmp_decode.specs.Ahead.{CharIn, SpellsChar};
+ghost use Rattle.std.specs.Prelude.{◌∷◌, [], Bool, IfSome};
+ghost use Rattle.rmp_decode.specs.Ahead.{CharIn, SpellsChar, TakesChar};
 ghost use Rattle.rmp_wire.specs.declared.head.Head.TheVariants.{Text};
 ghost use Rattle.rmp_decode.specs.Payloads.{TakesPayload, a_char};
+ghost use Rattle.rmp_decode.specs.Pieces.{PullsBuffered};
 
 use crate::content::Slices;
 use crate::content::pieces::next_char;
@@ -123,11 +121,7 @@ fn char_at(front: &[u8], len: u32) -> Option<char>
 // Consumes `len` buffered bytes as one character. Returns `None` and consumes nothing otherwise.
 #[inline(always)]
 fn char_ahead<S: Source>(source: &mut S, len: u32) -> Option<char>
-    ensures taken { IfSome result (λ c. IsScalar c × (length (encode_utf8 c) ≡ len) × IsBytes (encode_utf8 c)
-        × Consumes (S.ahead source.old) (S.ahead source.new) (encode_utf8 c)) }
-    ensures sound { IfSome result (λ _. S.faults source.new ≡ S.faults source.old) }
-    ensures place { IfSome result (λ _. S.place source.new ≡ S.place source.old) }
-    ensures kept { IfNone result (source.new ≡ source.old) }
+    ensures { PullsBuffered S.Source (TakesChar len) source.old source.new result }
 {
     let c = match char_at(source.front(), len) {
         Some(c) => c,

@@ -1,14 +1,10 @@
 //! Pieces of the input: lent, copied, or looked at in place.
-ghost use Rattle.std.specs.Prelude.{◌≡◌, ◌≢◌, ◌++◌, ℕ, List, true, false, IfSome, IfNone, IfOk, IfErr, OnOk, MatchOption, length, encode_utf8};
+ghost use Rattle.std.specs.Prelude.{◌≡◌, ◌≢◌, ℕ, true, false, MatchResult, length, encode_utf8};
 ghost use Rattle.std.specs.Char.{IsScalar};
-ghost use Rattle.std.specs.Io.KnownBytes.{Consumes};
-ghost use Rattle.rmp_wire.specs.Sources.{IsShort, Skips};
-ghost use Rattle.rmp_wire.specs.Spelling.{IsBytes};
 ghost use Rattle.rmp_decode.specs.Content.{not_char, not_lent};
-ghost use Rattle.rmp_decode.specs.Exact.{IsDataEnd, IsUtf8Error, TellsFault};
+ghost use Rattle.rmp_decode.specs.Exact.{IsUtf8Error};
 ghost use Rattle.rmp_decode.specs.Kinds.{raw_head};
-ghost use Rattle.rmp_decode.specs.Law.{Explains};
-ghost use Rattle.rmp_decode.specs.Pieces.{Blamed};
+ghost use Rattle.rmp_decode.specs.Pieces.{Blamed, Copies, Lends, PullsPayload};
 ghost use Rattle.rmp_decode.specs.Payloads.{TakesPayload, a_raw, some_bytes, a_str, a_string, a_char, an_ext};
 
 use crate::error::Error;
@@ -35,15 +31,7 @@ pub(crate) fn lent<'de, R: ReadSlice<'de>>(
     reader: &mut R,
     len: usize,
 ) -> Result<Option<&'de [u8]>, Error>
-    ensures ok { IfOk result (λ o. MatchOption o (R.lends ≡ false)
-        (λ s. (R.lends ≡ true) × (length s.now ≡ len) × IsBytes s.now × Consumes (R.ahead reader.old) (R.ahead reader.new) s.now)) }
-    ensures copied { IfOk result (λ o. IfNone o (Skips len (R.ahead reader.old) (R.ahead reader.new))) }
-    ensures sound { OnOk result (R.faults reader.new ≡ R.faults reader.old) }
-    ensures err { IfErr result (λ e. Explains e (R.faults reader.old) (R.faults reader.new) (IsShort len (R.ahead reader.old))) }
-    ensures end { IfErr result (λ e. Explains e (R.faults reader.old) (R.faults reader.new) (IsDataEnd e)) }
-    ensures fault { IfErr result (TellsFault (R.faults reader.old) (R.faults reader.new)) }
-    ensures memory { R.lends ≡ true → IfErr result (λ e. e ≢ Error.OutOfMemory) }
-    ensures place { R.place reader.new ≡ R.place reader.old }
+    ensures { PullsPayload R.Source len R.lends (Lends R.lends len) reader.old reader.new result }
 {
     match reader.read_slice(len) {
         Ok(Reference::Borrowed(s)) => Ok(Some(s)),
@@ -180,12 +168,7 @@ pub(crate) fn owned<'de, R: ReadSlice<'de>>(
     reader: &mut R,
     len: usize,
 ) -> Result<Vec<u8>, Error>
-    ensures ok { IfOk result (λ v. (length v.items ≡ len) × IsBytes v.items × Consumes (R.ahead reader.old) (R.ahead reader.new) v.items) }
-    ensures sound { OnOk result (R.faults reader.new ≡ R.faults reader.old) }
-    ensures err { IfErr result (λ e. Explains e (R.faults reader.old) (R.faults reader.new) (IsShort len (R.ahead reader.old))) }
-    ensures end { IfErr result (λ e. Explains e (R.faults reader.old) (R.faults reader.new) (IsDataEnd e)) }
-    ensures fault { IfErr result (TellsFault (R.faults reader.old) (R.faults reader.new)) }
-    ensures place { R.place reader.new ≡ R.place reader.old }
+    ensures { PullsPayload R.Source len false (Copies len) reader.old reader.new result }
 {
     match reader.read_slice(len) {
         Ok(r) => match Vec::from_slice(alloc, r.as_bytes()) {
@@ -198,9 +181,8 @@ pub(crate) fn owned<'de, R: ReadSlice<'de>>(
 
 // The one character that bytes are the UTF-8 of.
 fn char_of(bytes: &[u8]) -> Result<char, Error>
-    ensures ok { IfOk result (λ c. IsScalar c × (bytes.now ≡ encode_utf8 c)) }
-    ensures err { IfErr result (λ _. (c : ℕ) → IsScalar c → bytes.now ≢ encode_utf8 c) }
-    ensures exact { IfErr result (not_char (Head.Text (length bytes.now)) bytes.now) }
+    ensures { MatchResult result (λ c. IsScalar c × (bytes.now ≡ encode_utf8 c))
+        (λ e. ((c : ℕ) → IsScalar c → bytes.now ≢ encode_utf8 c) × not_char (Head.Text (length bytes.now)) bytes.now e) }
 {
     match str::from_utf8(bytes) {
         Ok(text) => match text.parse::<char>() {

@@ -1,37 +1,41 @@
 //! Messages with a payload: texts, characters, bytes, extensions, and names.
-ghost use Rattle.std.specs.Prelude.{◌≡◌, ◌≢◌, Bool, true, false, IfErr, ◌≤◌, ◌<◌, IfOk, IfSome, IfNone};
+ghost use Rattle.std.specs.Prelude.{◌≡◌, ◌≢◌, Bool, true, false, IfErr, ◌≤◌, ◌<◌, IfOk, if◌then◌else◌, None};
 ghost use Rattle.std.specs.String.{string_bytes};
-ghost use Rattle.rmp_decode.specs.Buffers.{a_buffer, BufferLeaves, IsBuffer, ListAfterHead, ReadsBuffer, ReadsByteList, RefusesList};
-ghost use Rattle.rmp_decode.specs.Consumed.{LeavesAfter, RefusalLeaves, no_payload};
+ghost use Rattle.rmp_decode.specs.Buffers.{a_buffer, BufferLeaves, IsBuffer, ListAfterHead, ReadsBuffer, ReadsByteList, ReadsNumber};
+ghost use Rattle.rmp_decode.specs.Buffers.{RefusesList, RefusesListIn};
+ghost use Rattle.rmp_decode.specs.Consumed.{RefusalLeaves};
 ghost use Rattle.rmp_decode.specs.Content.{IsTextHead, IsRawHead, RefusesLeaf, not_raw, never_refused, not_char, not_string};
-ghost use Rattle.rmp_decode.specs.Content.{not_str, not_bytes, IsBufferHead, not_buffer, IsExtHead, not_ext};
-ghost use Rattle.rmp_decode.specs.Exact.{RefusesExactly};
+ghost use Rattle.rmp_decode.specs.Content.{not_str, not_bytes, IsBufferHead, not_buffer, IsExtHead, not_ext, RefusesContent};
 ghost use Rattle.rmp_decode.specs.Law.{Lawful};
-ghost use Rattle.rmp_decode.specs.Kinds.{raw_head, raw_msg, other_number};
-ghost use Rattle.rmp_decode.specs.Read.{IsRaw, IsString, IsChar, IsUnsigned, IsExt};
+ghost use Rattle.rmp_decode.specs.Kinds.{raw_head, raw_msg};
+ghost use Rattle.rmp_decode.specs.Read.{IsRaw, IsString, IsChar, IsExt};
 ghost use Rattle.std.specs.Borrow.{sem, RestsIfErr};
 ghost use Rattle.rmp_decode.specs.contracts.deserializer.Deserializer.{the_row};
-ghost use Rattle.rmp_decode.specs.Seq.{IsOpen, TakesElement, FailsToTake, left_in, in_bytes, lender_of, reference_of};
-ghost use Rattle.rmp_decode.specs.State.{left, faults_of, is_failed, kept_of, is_strict};
+ghost use Rattle.rmp_decode.specs.Seq.{in_bytes, reference_of};
+ghost use Rattle.rmp_decode.specs.State.{is_failed, kept_of};
 ghost use Rattle.rmp_decode.specs.declared.deserializer.Kept.TheVariants.{Nothing};
-ghost use Rattle.rmp_decode.specs.Names.{bytes_of, IsName, IsNameHead};
+ghost use Rattle.rmp_decode.specs.Names.{IsName, IsNameHead};
 ghost use Rattle.rmp_decode.specs.Payloads.{ReadsMessage, ReadsRest, a_raw, some_bytes, a_str, a_string, a_char, an_ext, a_name};
+ghost use Rattle.rmp_wire.specs.Types.{buffer_bytes};
 
 use crate::access::names::{next_place, place_below};
-use crate::access::parts::levels_outside;
+use crate::access::parts::{inner_room, levels_outside};
 use crate::access::seq::SeqAccess;
 use crate::content::Slices;
 use crate::content::chars::char_taken;
 use crate::content::cold::read_cold;
 use crate::content::pieces::{next_bytes, next_ext, next_raw, next_str, next_string, owned};
+use crate::de::Deserialize;
 use crate::deserializer::Deserializer;
 use crate::deserializer::peek::{BinHead, ExtHead, RawHead, TextHead};
 use crate::error::Error;
 use crate::text::Text;
 use rmp_wire::config::SerializerConfig;
-use rmp_wire::{Ext, Head, ReadSlice, Source};
+use rmp_wire::{ByteBuf, Bytes, Ext, Head, ReadSlice, Source};
 
 impl<R: Source, C: SerializerConfig> Deserializer<R, C> {
+    ghost use Rattle.rmp_decode.specs.Names.{bytes_of};
+
     /// Reads a text, which needn't be UTF-8, or bytes, into a vector, and returns whether it was a text.
     ///
     /// # Errors
@@ -56,13 +60,9 @@ impl<R: Source, C: SerializerConfig> Deserializer<R, C> {
         R: ReadSlice<'de>,
         ensures { ReadsRest R.Source a_raw (raw_head is_text len) self.old self.new result }
     {
-        match next_raw(self.alloc, &mut self.reader, is_text, len) {
-            Ok(raw) => {
-                self.failed = false;
-                Ok(raw)
-            }
-            Err(e) => Err(e),
-        }
+        let read = next_raw(self.alloc, &mut self.reader, is_text, len);
+        self.failed = read.is_err();
+        read
     }
 
     // The slow path of `deserialize_raw`.
@@ -262,13 +262,9 @@ impl<R: Source, C: SerializerConfig> Deserializer<R, C> {
         R: ReadSlice<'de>,
         ensures { ReadsRest R.Source a_string (raw_head is_text len) self.old self.new result }
     {
-        match next_string(self.alloc, &mut self.reader, is_text, len) {
-            Ok(s) => {
-                self.failed = false;
-                Ok(s)
-            }
-            Err(e) => Err(e),
-        }
+        let read = next_string(self.alloc, &mut self.reader, is_text, len);
+        self.failed = read.is_err();
+        read
     }
 
     // The slow path of `deserialize_string`.
@@ -309,19 +305,15 @@ impl<R: Source, C: SerializerConfig> Deserializer<R, C> {
     }
 
     // Copies the payload of a text or of bytes, `len` bytes.
-    #[inline(never)]
+    #[inline(always)]
     fn byte_buf_payload<'de>(&mut self, len: u32) -> Result<Vec<u8>, Error>
     where
         R: ReadSlice<'de>,
         ensures { (is_text : Bool) → ReadsRest R.Source a_buffer (raw_head is_text len) self.old self.new result }
     {
-        match owned(self.alloc, &mut self.reader, len as usize) {
-            Ok(bytes) => {
-                self.failed = false;
-                Ok(bytes)
-            }
-            Err(e) => Err(e),
-        }
+        let read = owned(self.alloc, &mut self.reader, len as usize);
+        self.failed = read.is_err();
+        read
     }
 
     // The slow path of `deserialize_byte_buf`.
@@ -354,7 +346,7 @@ impl<R: Source, C: SerializerConfig> Deserializer<R, C> {
         if self.is_deepest() {
             return Err(Error::DepthLimitExceeded);
         }
-        let inner = self.room - 1;
+        let inner = inner_room(self.room, false);
         Ok(SeqAccess {
             de: self,
             left: len,
@@ -399,19 +391,15 @@ impl<R: Source, C: SerializerConfig> Deserializer<R, C> {
     }
 
     // Copies the payload of an extension, `len` bytes.
-    #[inline(never)]
+    #[inline(always)]
     fn ext_payload<'de>(&mut self, len: u32, tag: i8) -> Result<Ext, Error>
     where
         R: ReadSlice<'de>,
         ensures { ReadsRest R.Source an_ext (Head.Ext len tag) self.old self.new result }
     {
-        match next_ext(self.alloc, &mut self.reader, len, tag) {
-            Ok(ext) => {
-                self.failed = false;
-                Ok(ext)
-            }
-            Err(e) => Err(e),
-        }
+        let read = next_ext(self.alloc, &mut self.reader, len, tag);
+        self.failed = read.is_err();
+        read
     }
 
     // The slow path of `deserialize_ext`.
@@ -499,15 +487,7 @@ impl<'x, R: Source, C: SerializerConfig> SeqAccess<'x, R, C> {
     #[inline(always)]
     fn next_number(&mut self) -> Result<Option<u8>, Error>
         requires list { in_bytes self.old ≡ false }
-        ensures same_reference { reference_of self.new ≡ reference_of self.old }
-        ensures none { IsOpen self.old → IfOk result (λ o. IfNone o ((left_in self.old ≡ 0) × (self.new ≡ self.old))) }
-        ensures some { IsOpen self.old → IfOk result (λ o. IfSome o (TakesElement R.Source (IsUnsigned 255) self.old self.new)) }
-        ensures err { IsOpen self.old → IfErr result (FailsToTake R.Source (IsUnsigned 255) self.old self.new) }
-        ensures exact { IfErr result (RefusesExactly (is_strict (lender_of self.old)) other_number (faults_of R.Source (lender_of self.old))
-            (faults_of R.Source (lender_of self.new)) (left R.Source (lender_of self.old))) }
-        ensures taken { IfErr result (LeavesAfter (is_strict (lender_of self.old)) no_payload (left R.Source (lender_of self.old))
-            (left R.Source (lender_of self.new)) (faults_of R.Source (lender_of self.old)) (faults_of R.Source (lender_of self.new))) }
-        ensures marked { is_failed (lender_of self.old) ≡ true → is_failed (lender_of self.new) ≡ true }
+        ensures { ReadsNumber R.Source self.old self.new result }
     {
         if self.left == 0 {
             return Ok(None);
@@ -528,5 +508,141 @@ impl<'x, R: Source, C: SerializerConfig> SeqAccess<'x, R, C> {
                 Err(e)
             }
         }
+    }
+}
+
+impl<'de, R: ReadSlice<'de>> Deserialize<'de, R> for char {
+    ghost reads = { λ human lends. IsChar };
+
+    ghost absent = { None };
+
+    ghost refuses = { λ s. RefusesContent s.strict IsTextHead not_raw not_char };
+
+    ghost takes_memory = { λ lends. if lends then false else true };
+
+    #[inline(always)]
+    fn deserialize<C: SerializerConfig>(de: &mut Deserializer<R, C>) -> Result<char, Error> {
+        de.deserialize_char()
+    }
+
+    fn missing() -> Option<char> {
+        None
+    }
+}
+
+impl<'de, R: ReadSlice<'de>> Deserialize<'de, R> for String {
+    ghost reads = { λ human lends m s. IsRaw m (string_bytes s) };
+
+    ghost absent = { None };
+
+    ghost refuses = { λ s. RefusesContent s.strict IsRawHead not_raw not_string };
+
+    #[inline(always)]
+    fn deserialize<C: SerializerConfig>(de: &mut Deserializer<R, C>) -> Result<String, Error> {
+        de.deserialize_string()
+    }
+
+    fn missing() -> Option<String> {
+        None
+    }
+}
+
+impl<'de, R: ReadSlice<'de>> Deserialize<'de, R> for &'de str {
+    ghost reads = { λ human lends m s. (lends ≡ true) × IsString m s.now };
+
+    ghost absent = { None };
+
+    ghost refuses = { λ s. RefusesContent s.strict IsRawHead not_raw (not_str s.lends) };
+
+    ghost takes_memory = { λ lends. if lends then false else true };
+
+    #[inline(always)]
+    fn deserialize<C: SerializerConfig>(de: &mut Deserializer<R, C>) -> Result<&'de str, Error> {
+        de.deserialize_str()
+    }
+
+    fn missing() -> Option<&'de str> {
+        None
+    }
+}
+
+impl<'de, R: ReadSlice<'de>> Deserialize<'de, R> for &'de [u8] {
+    ghost reads = { λ human lends m s. (lends ≡ true) × IsRaw m s.now };
+
+    ghost absent = { None };
+
+    ghost refuses = { λ s. RefusesContent s.strict IsRawHead not_raw (not_bytes s.lends) };
+
+    ghost takes_memory = { λ lends. if lends then false else true };
+
+    #[inline(always)]
+    fn deserialize<C: SerializerConfig>(de: &mut Deserializer<R, C>) -> Result<&'de [u8], Error> {
+        de.deserialize_bytes()
+    }
+
+    fn missing() -> Option<&'de [u8]> {
+        None
+    }
+}
+
+impl<'de, R: ReadSlice<'de>> Deserialize<'de, R> for Bytes<'de> {
+    ghost use Rattle.rmp_wire.specs.Types.{bytes_of};
+
+    ghost reads = { λ human lends m s. (lends ≡ true) × IsRaw m (bytes_of s) };
+
+    ghost absent = { None };
+
+    ghost refuses = { λ s. RefusesContent s.strict IsRawHead not_raw (not_bytes s.lends) };
+
+    ghost takes_memory = { λ lends. if lends then false else true };
+
+    #[inline(always)]
+    fn deserialize<C: SerializerConfig>(de: &mut Deserializer<R, C>) -> Result<Bytes<'de>, Error> {
+        match de.deserialize_bytes() {
+            Ok(bytes) => Ok(Bytes::new(bytes)),
+            Err(e) => Err(e),
+        }
+    }
+
+    fn missing() -> Option<Bytes<'de>> {
+        None
+    }
+}
+
+impl<'de, R: ReadSlice<'de>> Deserialize<'de, R> for Ext {
+    ghost reads = { λ human lends. IsExt };
+
+    ghost absent = { None };
+
+    ghost refuses = { λ s. RefusesContent s.strict IsExtHead not_ext never_refused };
+
+    #[inline(always)]
+    fn deserialize<C: SerializerConfig>(de: &mut Deserializer<R, C>) -> Result<Ext, Error> {
+        de.deserialize_ext()
+    }
+
+    fn missing() -> Option<Ext> {
+        None
+    }
+}
+
+impl<'de, R: ReadSlice<'de>> Deserialize<'de, R> for ByteBuf {
+    ghost reads = { λ human lends m b. IsBuffer m (buffer_bytes b) };
+
+    ghost absent = { None };
+
+    ghost refuses = { λ s before after known e. RefusesContent s.strict IsBufferHead not_raw not_buffer before after known e
+        × RefusesListIn s.strict s.room before after known e };
+
+    #[inline(always)]
+    fn deserialize<C: SerializerConfig>(de: &mut Deserializer<R, C>) -> Result<ByteBuf, Error> {
+        match de.deserialize_byte_buf() {
+            Ok(bytes) => Ok(ByteBuf::new(bytes)),
+            Err(e) => Err(e),
+        }
+    }
+
+    fn missing() -> Option<ByteBuf> {
+        None
     }
 }

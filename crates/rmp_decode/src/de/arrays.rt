@@ -1,12 +1,10 @@
 //! Arrays, from lists of as many elements, or bytes of as many.
 ghost use Rattle.std.specs.Prelude.{◌≡◌, ◌⊎◌, ◌<◌, true, false, None, Some, IsSome, All, map, min, slice_index_or, slice_set};
-ghost use Rattle.rmp_decode.specs.Arrays.{PlacesFit, Exactly, HoldsFirst};
-ghost use Rattle.rmp_decode.specs.Inside.{access_at};
-ghost use Rattle.rmp_decode.specs.Law.{Lawful};
-ghost use Rattle.rmp_decode.specs.Refusing.{RefusesAs, RefusesTimes};
-ghost use Rattle.rmp_decode.specs.Seq.{OfRow, Opens};
-ghost use Rattle.rmp_decode.specs.State.{config_of, is_failed, kept_of};
-ghost use Rattle.rmp_decode.specs.declared.deserializer.Deserializer.{Deserializer};
+ghost use Rattle.rmp_decode.specs.Arrays.{PlacesFit, Exactly, HoldsFirst, RefusesArray};
+ghost use Rattle.rmp_decode.specs.Inside.{ReadsInside};
+ghost use Rattle.rmp_decode.specs.Refusing.{ReadsAs, RefusesTimes};
+ghost use Rattle.rmp_decode.specs.Seq.{OfRow};
+ghost use Rattle.rmp_decode.specs.State.{is_failed, kept_of};
 ghost use Rattle.rmp_decode.specs.declared.deserializer.Kept.TheVariants.{Nothing};
 ghost use Rattle.rmp_decode.specs.declared.error.Error.TheVariants.{OutOfMemory};
 
@@ -82,12 +80,8 @@ fn array_row<'de, R: ReadSlice<'de>, C: SerializerConfig, T: Deserialize<'de, R>
 ) -> Result<[T; N], Error>
     requires clean { kept_of de.old ≡ Nothing }
     requires failed { is_failed de.old ≡ true }
-    ensures law { (d : Deserializer R C) → Opens R.Source d (access_at de.old false count count)
-        → Lawful R.Source (λ m v. OfRow (Exactly N (T.reads (C.human (config_of d)) R.lends) v) m) d de.new result }
-    // The read is out of memory where the array doesn't fit in memory.
-    ensures refused { (d : Deserializer R C) → Opens R.Source d (access_at de.old false count count)
-        → RefusesAs R.Source (C.human (config_of d)) R.lends
-        (λ s before after known e. ((PlacesFit T.row N → ⊥) × (e ≡ OutOfMemory)) ⊎ RefusesTimes N T.reads T.refuses s before after known e) d de.new result }
+    ensures { ReadsInside R.Source C.human R.lends (λ m v. OfRow (Exactly N (T.reads C.human R.lends) v) m) (RefusesArray T.row N T.reads T.refuses) de.old false
+        count de.new result }
 {
     if !places_fit::<T, N>() {
         return Err(Error::OutOfMemory);
@@ -115,12 +109,8 @@ fn number_row<'de, R: ReadSlice<'de>, C: SerializerConfig, T: Deserialize<'de, R
 ) -> Result<[T; N], Error>
     requires clean { kept_of de.old ≡ Nothing }
     requires failed { is_failed de.old ≡ true }
-    ensures law { (d : Deserializer R C) → Opens R.Source d (access_at de.old true count count)
-        → Lawful R.Source (λ m v. OfRow (Exactly N (T.reads (C.human (config_of d)) R.lends) v) m) d de.new result }
-    // The read is out of memory where the array doesn't fit in memory.
-    ensures refused { (d : Deserializer R C) → Opens R.Source d (access_at de.old true count count)
-        → RefusesAs R.Source (C.human (config_of d)) R.lends
-        (λ s before after known e. ((PlacesFit T.row N → ⊥) × (e ≡ OutOfMemory)) ⊎ RefusesTimes N T.reads T.refuses s before after known e) d de.new result }
+    ensures { ReadsInside R.Source C.human R.lends (λ m v. OfRow (Exactly N (T.reads C.human R.lends) v) m) (RefusesArray T.row N T.reads T.refuses) de.old true
+        count de.new result }
 {
     if !places_fit::<T, N>() {
         return Err(Error::OutOfMemory);
@@ -147,9 +137,8 @@ fn number_row<'de, R: ReadSlice<'de>, C: SerializerConfig, T: Deserialize<'de, R
 fn slow_array<'de, R: ReadSlice<'de>, C: SerializerConfig, T: Deserialize<'de, R>, const N: usize>(
     de: &mut Deserializer<R, C>,
 ) -> Result<[T; N], Error>
-    ensures law { Lawful R.Source (λ m v. OfRow (Exactly N (T.reads (C.human (config_of de.old)) R.lends) v) m) de.old de.new result }
-    ensures refused { RefusesAs R.Source (C.human (config_of de.old)) R.lends
-        (λ s before after known e. ((PlacesFit T.row N → ⊥) × (e ≡ OutOfMemory)) ⊎ RefusesTimes N T.reads T.refuses s before after known e) de.old de.new result }
+    ensures { ReadsAs R.Source C.human R.lends true (λ m v. OfRow (Exactly N (T.reads C.human R.lends) v) m) (RefusesArray T.row N T.reads T.refuses) de.old
+        de.new result }
 {
     match de.open_tuple() {
         Ok((true, count)) => number_row(de, count),

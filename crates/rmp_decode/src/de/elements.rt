@@ -1,12 +1,12 @@
 //! The elements of a list, or the numbers of bytes, read one after another into what holds them.
-ghost use Rattle.std.specs.Prelude.{◌≡◌, ◌+◌, ◌<◌, ◌≤◌, ◌++◌, ◌∷◌, [], ℕ, Bool, List, Ok, IfOk, IfErr, IfSome, IfNone, true, false, length};
-ghost use Rattle.rmp_decode.specs.Inside.{ReadsRow, StopsRow};
+ghost use Rattle.std.specs.Prelude.{◌≡◌, ◌<◌, ◌≤◌, ◌++◌, ◌∷◌, [], ℕ, Bool, List, Ok, IfSome, IfNone, true, false, length};
+ghost use Rattle.rmp_decode.specs.Inside.{RowRead};
 ghost use Rattle.rmp_decode.specs.Seq.{TakesSeqHead};
-ghost use Rattle.rmp_decode.specs.State.{config_of, kept_of};
+ghost use Rattle.rmp_decode.specs.State.{kept_of};
 ghost use Rattle.rmp_decode.specs.declared.deserializer.Kept.TheVariants.{Nothing};
 
-use crate::access::parts::levels_outside;
-use crate::access::seq::{data_fault, inner_room};
+use crate::access::parts::inner_room;
+use crate::access::seq::data_fault;
 use crate::de::Deserialize;
 use crate::deserializer::peek::{BinHead, ListHead};
 use crate::deserializer::{Deserializer, Kept};
@@ -84,13 +84,10 @@ pub(crate) fn read_row<
 >(de: &mut Deserializer<R, C>, bytes: bool, count: u32, row: &mut W) -> Result<u32, Error>
     requires clean { kept_of de.old ≡ Nothing }
     requires empty { W.holds row.old [] }
-    ensures ok { IfOk result (ReadsRow R.Source (T.reads (C.human (config_of de.old)) R.lends) W.holds de.old bytes count de.new row.new) }
-    ensures rest { IfOk result (λ left. left + W.most count ≡ count) }
-    ensures err { IfErr result (StopsRow R.Source C.human R.lends T.reads T.refuses W.grows de.old bytes count (W.most count) de.new) }
+    ensures { RowRead R.Source C.human R.lends T.reads T.refuses W.holds W.most W.grows de.old bytes count de.new row.new result }
 {
     let outer = de.room;
-    let inner = inner_room(outer, bytes);
-    de.room = inner;
+    de.room = inner_room(outer, bytes);
     de.failed = false;
     de.kept = Kept::Nothing;
     let rest = count - W::wanted(count);
@@ -118,7 +115,8 @@ pub(crate) fn read_row<
             }
             Err(e) => {
                 de.room = outer;
-                de.levels = levels_outside(de.levels, outer, inner);
+                // (a list is one level; the room in it would have to be kept for the whole loop)
+                de.levels = de.levels.saturating_add(if bytes { 0 } else { 1 });
                 return Err(e);
             }
         }
@@ -147,9 +145,7 @@ pub(crate) trait ReadNumbers<R: Source, T: Drop, W: Row<T>> {
     ) -> Result<u32, Error>
         requires clean { kept_of de.old ≡ Nothing }
         requires empty { W.holds row.old [] }
-        ensures ok { IfOk result (ReadsRow R.Source (reads (C.human (config_of de.old)) lends) W.holds de.old true count de.new row.new) }
-        ensures rest { IfOk result (λ left. left + W.most count ≡ count) }
-        ensures err { IfErr result (StopsRow R.Source C.human lends reads refuses W.grows de.old true count (W.most count) de.new) };
+        ensures { RowRead R.Source C.human lends reads refuses W.holds W.most W.grows de.old true count de.new row.new result };
 }
 
 // Numbers that are read by their type.
@@ -186,9 +182,7 @@ pub(crate) fn numbers_taken_out<
 >(de: &mut Deserializer<R, C>, count: u32, row: W) -> (Result<u32, Error>, W)
     requires clean { kept_of de.old ≡ Nothing }
     requires empty { W.holds row [] }
-    ensures ok { IfOk result.0 (ReadsRow R.Source (P.reads (C.human (config_of de.old)) P.lends) W.holds de.old true count de.new result.1) }
-    ensures rest { IfOk result.0 (λ left. left + W.most count ≡ count) }
-    ensures err { IfErr result.0 (StopsRow R.Source C.human P.lends P.reads P.refuses W.grows de.old true count (W.most count) de.new) }
+    ensures { RowRead R.Source C.human P.lends P.reads P.refuses W.holds W.most W.grows de.old true count de.new result.1 result.0 }
 {
     replace_with(
         de,
@@ -196,9 +190,7 @@ pub(crate) fn numbers_taken_out<
         |mut de: Deserializer<R, C>, given: (u32, W)|
             requires clean { kept_of de ≡ Nothing }
             requires empty { W.holds given.1 [] }
-            ensures ok { IfOk result.1.0 (ReadsRow R.Source (P.reads (C.human (config_of de)) P.lends) W.holds de true given.0 result.0 result.1.1) }
-            ensures rest { IfOk result.1.0 (λ left. left + W.most given.0 ≡ given.0) }
-            ensures err { IfErr result.1.0 (StopsRow R.Source C.human P.lends P.reads P.refuses W.grows de true given.0 (W.most given.0) result.0) }
+            ensures { RowRead R.Source C.human P.lends P.reads P.refuses W.holds W.most W.grows de true given.0 result.0 result.1.1 result.1.0 }
         {
             let (count, mut row) = given;
             let read = P::read(&mut de, count, &mut row);

@@ -1,12 +1,10 @@
 //! Vectors and queues, from lists or bytes.
-ghost use Rattle.std.specs.Prelude.{◌≡◌, ◌<◌, None, Err, IfErr, List, true, vec_len, vec_capacity};
-ghost use Rattle.rmp_decode.specs.Inside.{access_at};
-ghost use Rattle.rmp_decode.specs.Law.{Lawful};
-ghost use Rattle.rmp_decode.specs.Refusing.{RefusesAs, RefusesEach};
+ghost use Rattle.std.specs.Prelude.{◌≡◌, ◌<◌, None, true, vec_len, vec_capacity};
+ghost use Rattle.rmp_decode.specs.Inside.{ReadsInside, ListOf, values_of};
+ghost use Rattle.rmp_decode.specs.Refusing.{ReadsAs, RefusesEach};
 ghost use Rattle.rmp_decode.specs.Rows.{ReadsEach};
-ghost use Rattle.rmp_decode.specs.Seq.{OfRow, Opens};
-ghost use Rattle.rmp_decode.specs.State.{config_of, kept_of};
-ghost use Rattle.rmp_decode.specs.declared.deserializer.Deserializer.{Deserializer};
+ghost use Rattle.rmp_decode.specs.Seq.{OfRow};
+ghost use Rattle.rmp_decode.specs.State.{kept_of};
 ghost use Rattle.rmp_decode.specs.declared.deserializer.Kept.TheVariants.{Nothing};
 
 use crate::de::Deserialize;
@@ -88,12 +86,8 @@ fn vec_row<'de, R: ReadSlice<'de>, C: SerializerConfig, T: Deserialize<'de, R>>(
     count: u32,
 ) -> Result<Vec<T>, Error>
     requires clean { kept_of de.old ≡ Nothing }
-    ensures law { (d : Deserializer R C) → Opens R.Source d (access_at de.old bytes count count)
-        → Lawful R.Source (λ m v. OfRow (λ ms. ReadsEach (T.reads (C.human (config_of d)) R.lends) ms v.items) m) d de.new result }
-    ensures unread { (d : Deserializer R C) → Opens R.Source d (access_at de.old bytes count count)
-        → IfErr result (λ e. Lawful R.Source (λ m (vs : List T). OfRow (λ ms. ReadsEach (T.reads (C.human (config_of d)) R.lends) ms vs) m) d de.new (Err e)) }
-    ensures refused { (d : Deserializer R C) → Opens R.Source d (access_at de.old bytes count count)
-        → RefusesAs R.Source (C.human (config_of d)) R.lends (RefusesEach T.reads T.refuses) d de.new result }
+    ensures { ReadsInside R.Source C.human R.lends (ListOf (T.reads C.human R.lends)) (RefusesEach T.reads T.refuses) de.old bytes count de.new
+        (values_of (λ v. v.items) result) }
 {
     let mut items = Vec::new(de.alloc());
     match read_row(de, bytes, count, &mut items) {
@@ -107,11 +101,8 @@ fn vec_row<'de, R: ReadSlice<'de>, C: SerializerConfig, T: Deserialize<'de, R>>(
 fn read_vec<'de, R: ReadSlice<'de>, C: SerializerConfig, T: Deserialize<'de, R>>(
     de: &mut Deserializer<R, C>,
 ) -> Result<Vec<T>, Error>
-    ensures law { Lawful R.Source (λ m v. OfRow (λ ms. ReadsEach (T.reads (C.human (config_of de.old)) R.lends) ms v.items) m) de.old de.new result }
-    // No other values than those of a vector are there either.
-    ensures unread { IfErr result (λ e. Lawful R.Source (λ m (vs : List T). OfRow (λ ms. ReadsEach (T.reads (C.human (config_of de.old)) R.lends) ms vs) m)
-        de.old de.new (Err e)) }
-    ensures refused { RefusesAs R.Source (C.human (config_of de.old)) R.lends (RefusesEach T.reads T.refuses) de.old de.new result }
+    ensures { ReadsAs R.Source C.human R.lends true (ListOf (T.reads C.human R.lends)) (RefusesEach T.reads T.refuses) de.old de.new
+        (values_of (λ v. v.items) result) }
 {
     match de.open_row(is_small::<T>()) {
         Ok((true, count)) => vec_row(de, true, count),
@@ -125,8 +116,8 @@ fn read_vec<'de, R: ReadSlice<'de>, C: SerializerConfig, T: Deserialize<'de, R>>
 fn read_queue<'de, R: ReadSlice<'de>, C: SerializerConfig, T: Deserialize<'de, R>>(
     de: &mut Deserializer<R, C>,
 ) -> Result<VecDeque<T>, Error>
-    ensures law { Lawful R.Source (λ m v. OfRow (λ ms. ReadsEach (T.reads (C.human (config_of de.old)) R.lends) ms v.items) m) de.old de.new result }
-    ensures refused { RefusesAs R.Source (C.human (config_of de.old)) R.lends (RefusesEach T.reads T.refuses) de.old de.new result }
+    ensures { ReadsAs R.Source C.human R.lends true (ListOf (T.reads C.human R.lends)) (RefusesEach T.reads T.refuses) de.old de.new
+        (values_of (λ v. v.items) result) }
 {
     match read_vec(de) {
         Ok(items) => Ok(VecDeque::from(items)),
@@ -147,8 +138,7 @@ trait ReadHere<R: Source, V: Drop> {
     ghost refuses: { Setting → Refusals };
 
     fn read<C: SerializerConfig>(de: &mut Deserializer<R, C>) -> Result<V, Error>
-        ensures law { Lawful R.Source (reads (C.human (config_of de.old)) lends) de.old de.new result }
-        ensures refused { RefusesAs R.Source (C.human (config_of de.old)) lends refuses de.old de.new result };
+        ensures { ReadsAs R.Source C.human lends true (reads C.human lends) refuses de.old de.new result };
 }
 
 // Lists whose elements are read by their type.
@@ -187,15 +177,13 @@ impl<'de, R: ReadSlice<'de>, T: Deserialize<'de, R>> ReadHere<R, VecDeque<T>> fo
 fn taken_out<R: Source, C: SerializerConfig, V: Drop, P: ReadHere<R, V>>(
     de: &mut Deserializer<R, C>,
 ) -> Result<V, Error>
-    ensures law { Lawful R.Source (P.reads (C.human (config_of de.old)) P.lends) de.old de.new result }
-    ensures refused { RefusesAs R.Source (C.human (config_of de.old)) P.lends P.refuses de.old de.new result }
+    ensures { ReadsAs R.Source C.human P.lends true (P.reads C.human P.lends) P.refuses de.old de.new result }
 {
     replace_with(
         de,
         (),
         |mut de: Deserializer<R, C>, _none: ()|
-            ensures law { Lawful R.Source (P.reads (C.human (config_of de)) P.lends) de result.0 result.1 }
-            ensures refused { RefusesAs R.Source (C.human (config_of de)) P.lends P.refuses de result.0 result.1 }
+            ensures { ReadsAs R.Source C.human P.lends true (P.reads C.human P.lends) P.refuses de result.0 result.1 }
         {
             let read = P::read(&mut de);
             (de, read)
@@ -204,8 +192,6 @@ fn taken_out<R: Source, C: SerializerConfig, V: Drop, P: ReadHere<R, V>>(
 }
 
 impl<'de, R: ReadSlice<'de>, T: Deserialize<'de, R>> Deserialize<'de, R> for Vec<T> {
-    ghost use Rattle.std.specs.Prelude.{List};
-
     ghost reads = { λ human lends m v. OfRow (λ ms. ReadsEach (T.reads human lends) ms v.items) m };
 
     ghost absent = { None };
@@ -222,8 +208,6 @@ impl<'de, R: ReadSlice<'de>, T: Deserialize<'de, R>> Deserialize<'de, R> for Vec
 }
 
 impl<'de, R: ReadSlice<'de>, T: Deserialize<'de, R>> Deserialize<'de, R> for VecDeque<T> {
-    ghost use Rattle.std.specs.Prelude.{List};
-
     ghost reads = { λ human lends m v. OfRow (λ ms. ReadsEach (T.reads human lends) ms v.items) m };
 
     ghost absent = { None };

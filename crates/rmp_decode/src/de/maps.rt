@@ -1,10 +1,8 @@
 //! Maps, from maps.
-ghost use Rattle.std.specs.Prelude.{None};
-ghost use Rattle.rmp_decode.specs.Law.{Lawful};
+ghost use Rattle.std.specs.Prelude.{None, true};
 ghost use Rattle.rmp_decode.specs.MapRefusing.{RefusesPairs};
 ghost use Rattle.rmp_decode.specs.Maps.{ReadsEntries};
-ghost use Rattle.rmp_decode.specs.Refusing.{RefusesAs};
-ghost use Rattle.rmp_decode.specs.State.{config_of};
+ghost use Rattle.rmp_decode.specs.Refusing.{ReadsAs};
 
 use crate::de::Deserialize;
 use crate::deserializer::Deserializer;
@@ -23,9 +21,8 @@ fn read_map<
     K: Deserialize<'de, R> + Ord,
     V: Deserialize<'de, R>,
 >(de: &mut Deserializer<R, C>) -> Result<BTreeMap<K, V>, Error>
-    ensures law { Lawful R.Source (λ m v. ReadsEntries K.cmp (K.reads (C.human (config_of de.old)) R.lends) (V.reads (C.human (config_of de.old)) R.lends) v.entries m)
-        de.old de.new result }
-    ensures refused { RefusesAs R.Source (C.human (config_of de.old)) R.lends (RefusesPairs K.reads V.reads K.refuses V.refuses) de.old de.new result }
+    ensures { ReadsAs R.Source C.human R.lends true (λ m v. ReadsEntries K.cmp (K.reads C.human R.lends) (V.reads C.human R.lends) v.entries m)
+        (RefusesPairs K.reads V.reads K.refuses V.refuses) de.old de.new result }
 {
     let mut entries = BTreeMap::new(de.alloc());
     let mut map = de.deserialize_map()?;

@@ -1,14 +1,11 @@
 //! Sets, from lists or bytes.
-ghost use Rattle.std.specs.Prelude.{◌≡◌, ◌<◌, ◌∷◌, ◌++◌, [], List, None, OnOk, true, false};
+ghost use Rattle.std.specs.Prelude.{◌≡◌, ◌<◌, ◌∷◌, ◌++◌, [], None, OnOk, true, false};
 ghost use Rattle.std.specs.BTreeSet.{insert_key};
 ghost use Rattle.std.specs.List.Sorted.{IsStrictlySortedBy};
-ghost use Rattle.rmp_decode.specs.Inside.{access_at};
-ghost use Rattle.rmp_decode.specs.Law.{Lawful};
-ghost use Rattle.rmp_decode.specs.Refusing.{RefusesAs, RefusesEach};
-ghost use Rattle.rmp_decode.specs.Seq.{Opens};
+ghost use Rattle.rmp_decode.specs.Inside.{ReadsInside};
+ghost use Rattle.rmp_decode.specs.Refusing.{RefusesEach};
 ghost use Rattle.rmp_decode.specs.Sets.{CollectsKeys, IsEitherPlace, ReadsKeys, keys_so_far};
-ghost use Rattle.rmp_decode.specs.State.{config_of, kept_of};
-ghost use Rattle.rmp_decode.specs.declared.deserializer.Deserializer.{Deserializer};
+ghost use Rattle.rmp_decode.specs.State.{kept_of};
 ghost use Rattle.rmp_decode.specs.declared.deserializer.Kept.TheVariants.{Nothing};
 
 use crate::de::Deserialize;
@@ -128,10 +125,8 @@ fn many_row<'de, R: ReadSlice<'de>, C: SerializerConfig, T: Deserialize<'de, R> 
 ) -> Result<BTreeSet<T>, Error>
     requires clean { kept_of de.old ≡ Nothing }
     requires some { 0 < count }
-    ensures law { (d : Deserializer R C) → Opens R.Source d (access_at de.old bytes count count)
-        → Lawful R.Source (λ m v. ReadsKeys T.cmp (T.reads (C.human (config_of d)) R.lends) v.keys m) d de.new result }
-    ensures refused { (d : Deserializer R C) → Opens R.Source d (access_at de.old bytes count count)
-        → RefusesAs R.Source (C.human (config_of d)) R.lends (RefusesEach T.reads T.refuses) d de.new result }
+    ensures { ReadsInside R.Source C.human R.lends (λ m v. ReadsKeys T.cmp (T.reads C.human R.lends) v.keys m) (RefusesEach T.reads T.refuses) de.old bytes count
+        de.new result }
 {
     let mut items = Keys {
         keys: BTreeSet::new(de.alloc()),
@@ -155,10 +150,8 @@ fn set_row<'de, R: ReadSlice<'de>, C: SerializerConfig, T: Deserialize<'de, R> +
     count: u32,
 ) -> Result<BTreeSet<T>, Error>
     requires clean { kept_of de.old ≡ Nothing }
-    ensures law { (d : Deserializer R C) → Opens R.Source d (access_at de.old bytes count count)
-        → Lawful R.Source (λ m v. ReadsKeys T.cmp (T.reads (C.human (config_of d)) R.lends) v.keys m) d de.new result }
-    ensures refused { (d : Deserializer R C) → Opens R.Source d (access_at de.old bytes count count)
-        → RefusesAs R.Source (C.human (config_of d)) R.lends (RefusesEach T.reads T.refuses) d de.new result }
+    ensures { ReadsInside R.Source C.human R.lends (λ m v. ReadsKeys T.cmp (T.reads C.human R.lends) v.keys m) (RefusesEach T.reads T.refuses) de.old bytes count
+        de.new result }
 {
     let mut items = BTreeSet::new(de.alloc());
     match read_row(de, bytes, count, &mut items) {

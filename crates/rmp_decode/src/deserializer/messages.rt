@@ -1,6 +1,5 @@
 //! The messages of a source, one after another.
 ghost use Rattle.rmp_decode.specs.Messages.{messages_left, YieldsMessage};
-ghost use Rattle.rmp_decode.specs.State.{config_of};
 
 use crate::de::Deserialize;
 use crate::deserializer::Deserializer;
@@ -21,7 +20,7 @@ impl<'x, 'de, T: Deserialize<'de, R>, R: ReadSlice<'de>, C: SerializerConfig> It
     for Messages<'x, 'de, T, R, C> {
     type Item = Result<T, Error>;
 
-    ghost next_gives = { λ s r t. YieldsMessage R.Source (C.human (config_of s.de.now)) R.lends (T.takes_memory R.lends) (T.reads (C.human (config_of s.de.now)) R.lends) T.refuses s r t };
+    ghost next_gives = { λ s r t. YieldsMessage R.Source C.human R.lends (T.takes_memory R.lends) (T.reads C.human R.lends) T.refuses s r t };
 
     ghost remaining = { messages_left R.Source };
 

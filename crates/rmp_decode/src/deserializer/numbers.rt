@@ -1,26 +1,30 @@
 //! Truths, numbers, the bits of floats, and nil.
-ghost use Rattle.std.specs.Prelude.{◌≡◌, ◌≢◌, ◌≤ℤ◌, pos, negsuc, IfErr, ◌++◌, ℕ, List, None, true, false, length, IfSome, IfNone, IfOk, OnOk};
+ghost use Rattle.std.specs.Prelude.{◌≡◌, ◌≢◌, ◌≤ℤ◌, pos, negsuc, IfErr, ◌++◌, ℕ, List, None, true, false, length, IfSome};
 ghost use Rattle.rmp_wire.specs.Msg.{Msg};
-ghost use Rattle.rmp_decode.specs.Exact.{RefusesHead, IsDataEnd, TellsFault};
+ghost use Rattle.rmp_decode.specs.Exact.{RefusesHead, RefusesExactly};
 ghost use Rattle.rmp_decode.specs.Kinds.{other_kind, other_number, not_nil};
-ghost use Rattle.rmp_decode.specs.Law.{Lawful, Explains};
+ghost use Rattle.rmp_decode.specs.Law.{Lawful};
 ghost use Rattle.rmp_decode.specs.Read.{IsUnsigned, IsSigned};
 ghost use Rattle.std.specs.Io.KnownBytes.{Consumes};
-ghost use Rattle.rmp_wire.specs.Sources.{IsShort, Takes};
+ghost use Rattle.rmp_wire.specs.Sources.{Takes};
 ghost use Rattle.rmp_decode.specs.Consumed.{RefusalLeaves, no_payload};
-ghost use Rattle.rmp_decode.specs.Content.{RefusesLeaf, never_refused};
+ghost use Rattle.rmp_decode.specs.Content.{RefusesLeaf, never_refused, RefusesContent};
+ghost use Rattle.rmp_decode.specs.Leaves.{ReadsLeaf};
 ghost use Rattle.rmp_decode.specs.Payloads.{ReadsMessage, ReadsRest};
+ghost use Rattle.rmp_decode.specs.Pieces.{PullsBuffered};
 ghost use Rattle.rmp_decode.specs.Wide.{a_signed128, an_unsigned128, IsSigned128, IsUnsigned128, IsSigned128Head, IsUnsigned128Head, TakesSixteen, ReadsSixteen, not_wide};
 
 use crate::content::cold::{Cold, read_cold};
+use crate::de::Deserialize;
 use crate::deserializer::Deserializer;
 use crate::deserializer::peek::{
     F32Head, F64Head, NilHead, SixteenHead, TruthHead, Unsigned, WithSign,
 };
+use crate::deserializer::refusal::other_kind;
 use crate::error::Error;
 use core::mem::replace_with;
 use rmp_wire::config::SerializerConfig;
-use rmp_wire::{Head, IoFault, Marker, Source};
+use rmp_wire::{F32Bits, F64Bits, Head, IoFault, Marker, ReadSlice, Source};
 
 // Whether 16 bytes follow.
 #[inline(always)]
@@ -75,10 +79,7 @@ fn sixteen_of(front: &[u8]) -> Option<[u8; 16]>
 // Consumes 16 buffered bytes. Returns `None` and consumes nothing otherwise.
 #[inline(always)]
 fn buffered_16<S: Source>(source: &mut S) -> Option<[u8; 16]>
-    ensures taken { IfSome result (λ bytes. Consumes (S.ahead source.old) (S.ahead source.new) bytes) }
-    ensures sound { IfSome result (λ _. S.faults source.new ≡ S.faults source.old) }
-    ensures place { IfSome result (λ _. S.place source.new ≡ S.place source.old) }
-    ensures kept { IfNone result (source.new ≡ source.old) }
+    ensures { PullsBuffered S.Source (λ old new bytes. Consumes old new bytes) source.old source.new result }
 {
     match sixteen_of(source.front()) {
         Some(bytes) => { if source.skip(16) { Some(bytes) } else { None } }
@@ -89,10 +90,7 @@ fn buffered_16<S: Source>(source: &mut S) -> Option<[u8; 16]>
 // Consumes 16 buffered bytes as an unsigned number, which is made from the bytes before the paths join.
 #[inline(always)]
 fn buffered_u128<S: Source>(source: &mut S) -> Option<u128>
-    ensures ok { IfSome result (TakesSixteen (S.ahead source.old) (S.ahead source.new)) }
-    ensures sound { IfSome result (λ _. S.faults source.new ≡ S.faults source.old) }
-    ensures place { IfSome result (λ _. S.place source.new ≡ S.place source.old) }
-    ensures kept { IfNone result (source.new ≡ source.old) }
+    ensures { PullsBuffered S.Source TakesSixteen source.old source.new result }
 {
     match buffered_16(source) {
         Some(bytes) => Some(u128::from_be_bytes(bytes)),
@@ -131,13 +129,7 @@ fn cold_sixteen<S: Source>(source: &mut S) -> Result<u128, Error>
 // Reads the next 16 bytes by `pull_exact`, out of line.
 #[inline(never)]
 fn pulled_sixteen<S: Source>(source: &mut S) -> Result<u128, Error>
-    ensures ok { IfOk result (TakesSixteen (S.ahead source.old) (S.ahead source.new)) }
-    ensures sound { OnOk result (S.faults source.new ≡ S.faults source.old) }
-    ensures err { IfErr result (λ e. Explains e (S.faults source.old) (S.faults source.new) (IsShort 16 (S.ahead source.old))) }
-    ensures end { IfErr result (λ e. Explains e (S.faults source.old) (S.faults source.new) (IsDataEnd e)) }
-    ensures fault { IfErr result (TellsFault (S.faults source.old) (S.faults source.new)) }
-    ensures memory { IfErr result (λ e. e ≢ Error.OutOfMemory) }
-    ensures place { S.place source.new ≡ S.place source.old }
+    ensures { ReadsSixteen S.Source source.old source.new result }
 {
     match take_16(source) {
         Ok(bytes) => Ok(u128::from_be_bytes(bytes)),
@@ -206,10 +198,7 @@ impl<R: Source, C: SerializerConfig> Deserializer<R, C> {
     fn signed(&mut self, least: i64, most: i64) -> Result<i64, Error>
         requires least { least ≤ℤ pos 0 }
         requires most { pos 0 ≤ℤ most }
-        ensures law { Lawful R.Source (IsSigned least most) self.old self.new result }
-        ensures exact { RefusesHead R.Source other_number self.old self.new result }
-        ensures taken { RefusalLeaves R.Source no_payload self.old self.new result }
-        ensures memory { IfErr result (λ e. e ≢ Error.OutOfMemory) }
+        ensures { ReadsLeaf R.Source (IsSigned least most) other_number self.old self.new result }
     {
         let small = Unsigned { most: most as u64 };
         match self.take(small) {
@@ -502,5 +491,321 @@ impl<R: Source> Cold<R, u128> for WideNumber {
     #[inline(always)]
     fn slow<C: SerializerConfig>(de: &mut Deserializer<R, C>) -> Result<u128, Error> {
         de.slow_u128()
+    }
+}
+
+impl<'de, R: ReadSlice<'de>> Deserialize<'de, R> for bool {
+    ghost reads = { λ human lends m t. m ≡ Msg.truth t };
+
+    ghost absent = { None };
+
+    ghost refuses = { λ s. RefusesExactly s.strict other_kind };
+
+    ghost takes_memory = { λ _. false };
+
+    #[inline(always)]
+    fn deserialize<C: SerializerConfig>(de: &mut Deserializer<R, C>) -> Result<bool, Error> {
+        de.deserialize_bool()
+    }
+
+    fn missing() -> Option<bool> {
+        None
+    }
+}
+
+impl<'de, R: ReadSlice<'de>> Deserialize<'de, R> for u8 {
+    ghost reads = { λ human lends. IsUnsigned 255 };
+
+    ghost absent = { None };
+
+    ghost refuses = { λ s. RefusesExactly s.strict other_number };
+
+    ghost takes_memory = { λ _. false };
+
+    #[inline(always)]
+    fn deserialize<C: SerializerConfig>(de: &mut Deserializer<R, C>) -> Result<u8, Error> {
+        de.deserialize_u8()
+    }
+
+    fn missing() -> Option<u8> {
+        None
+    }
+}
+
+impl<'de, R: ReadSlice<'de>> Deserialize<'de, R> for u16 {
+    ghost reads = { λ human lends. IsUnsigned 65535 };
+
+    ghost absent = { None };
+
+    ghost refuses = { λ s. RefusesExactly s.strict other_number };
+
+    ghost takes_memory = { λ _. false };
+
+    #[inline(always)]
+    fn deserialize<C: SerializerConfig>(de: &mut Deserializer<R, C>) -> Result<u16, Error> {
+        de.deserialize_u16()
+    }
+
+    fn missing() -> Option<u16> {
+        None
+    }
+}
+
+impl<'de, R: ReadSlice<'de>> Deserialize<'de, R> for u32 {
+    ghost reads = { λ human lends. IsUnsigned 4294967295 };
+
+    ghost absent = { None };
+
+    ghost refuses = { λ s. RefusesExactly s.strict other_number };
+
+    ghost takes_memory = { λ _. false };
+
+    #[inline(always)]
+    fn deserialize<C: SerializerConfig>(de: &mut Deserializer<R, C>) -> Result<u32, Error> {
+        de.deserialize_u32()
+    }
+
+    fn missing() -> Option<u32> {
+        None
+    }
+}
+
+impl<'de, R: ReadSlice<'de>> Deserialize<'de, R> for u64 {
+    ghost reads = { λ human lends. IsUnsigned 18446744073709551615 };
+
+    ghost absent = { None };
+
+    ghost refuses = { λ s. RefusesExactly s.strict other_number };
+
+    ghost takes_memory = { λ _. false };
+
+    #[inline(always)]
+    fn deserialize<C: SerializerConfig>(de: &mut Deserializer<R, C>) -> Result<u64, Error> {
+        de.deserialize_u64()
+    }
+
+    fn missing() -> Option<u64> {
+        None
+    }
+}
+
+impl<'de, R: ReadSlice<'de>> Deserialize<'de, R> for i8 {
+    ghost reads = { λ human lends. IsSigned (negsuc 127) (pos 127) };
+
+    ghost absent = { None };
+
+    ghost refuses = { λ s. RefusesExactly s.strict other_number };
+
+    ghost takes_memory = { λ _. false };
+
+    #[inline(always)]
+    fn deserialize<C: SerializerConfig>(de: &mut Deserializer<R, C>) -> Result<i8, Error> {
+        de.deserialize_i8()
+    }
+
+    fn missing() -> Option<i8> {
+        None
+    }
+}
+
+impl<'de, R: ReadSlice<'de>> Deserialize<'de, R> for i16 {
+    ghost reads = { λ human lends. IsSigned (negsuc 32767) (pos 32767) };
+
+    ghost absent = { None };
+
+    ghost refuses = { λ s. RefusesExactly s.strict other_number };
+
+    ghost takes_memory = { λ _. false };
+
+    #[inline(always)]
+    fn deserialize<C: SerializerConfig>(de: &mut Deserializer<R, C>) -> Result<i16, Error> {
+        de.deserialize_i16()
+    }
+
+    fn missing() -> Option<i16> {
+        None
+    }
+}
+
+impl<'de, R: ReadSlice<'de>> Deserialize<'de, R> for i32 {
+    ghost reads = { λ human lends. IsSigned (negsuc 2147483647) (pos 2147483647) };
+
+    ghost absent = { None };
+
+    ghost refuses = { λ s. RefusesExactly s.strict other_number };
+
+    ghost takes_memory = { λ _. false };
+
+    #[inline(always)]
+    fn deserialize<C: SerializerConfig>(de: &mut Deserializer<R, C>) -> Result<i32, Error> {
+        de.deserialize_i32()
+    }
+
+    fn missing() -> Option<i32> {
+        None
+    }
+}
+
+impl<'de, R: ReadSlice<'de>> Deserialize<'de, R> for i64 {
+    ghost reads = { λ human lends. IsSigned (negsuc 9223372036854775807) (pos 9223372036854775807) };
+
+    ghost absent = { None };
+
+    ghost refuses = { λ s. RefusesExactly s.strict other_number };
+
+    ghost takes_memory = { λ _. false };
+
+    #[inline(always)]
+    fn deserialize<C: SerializerConfig>(de: &mut Deserializer<R, C>) -> Result<i64, Error> {
+        de.deserialize_i64()
+    }
+
+    fn missing() -> Option<i64> {
+        None
+    }
+}
+
+impl<'de, R: ReadSlice<'de>> Deserialize<'de, R> for usize {
+    ghost reads = { λ human lends. IsUnsigned 18446744073709551615 };
+
+    ghost absent = { None };
+
+    ghost refuses = { λ s. RefusesExactly s.strict other_number };
+
+    ghost takes_memory = { λ _. false };
+
+    #[inline(always)]
+    fn deserialize<C: SerializerConfig>(de: &mut Deserializer<R, C>) -> Result<usize, Error> {
+        match de.deserialize_u64() {
+            Ok(n) => Ok(n as usize),
+            Err(e) => Err(e),
+        }
+    }
+
+    fn missing() -> Option<usize> {
+        None
+    }
+}
+
+impl<'de, R: ReadSlice<'de>> Deserialize<'de, R> for isize {
+    ghost reads = { λ human lends. IsSigned (negsuc 9223372036854775807) (pos 9223372036854775807) };
+
+    ghost absent = { None };
+
+    ghost refuses = { λ s. RefusesExactly s.strict other_number };
+
+    ghost takes_memory = { λ _. false };
+
+    #[inline(always)]
+    fn deserialize<C: SerializerConfig>(de: &mut Deserializer<R, C>) -> Result<isize, Error> {
+        match de.deserialize_i64() {
+            Ok(z) => Ok(z as isize),
+            Err(e) => Err(e),
+        }
+    }
+
+    fn missing() -> Option<isize> {
+        None
+    }
+}
+
+impl<'de, R: ReadSlice<'de>> Deserialize<'de, R> for F32Bits {
+    ghost reads = { λ human lends m v. m ≡ Msg.float32 v.0 };
+
+    ghost absent = { None };
+
+    ghost refuses = { λ s. RefusesExactly s.strict other_kind };
+
+    ghost takes_memory = { λ _. false };
+
+    #[inline(always)]
+    fn deserialize<C: SerializerConfig>(de: &mut Deserializer<R, C>) -> Result<F32Bits, Error> {
+        match de.deserialize_f32_bits() {
+            Ok(bits) => Ok(F32Bits(bits)),
+            Err(e) => Err(e),
+        }
+    }
+
+    fn missing() -> Option<F32Bits> {
+        None
+    }
+}
+
+impl<'de, R: ReadSlice<'de>> Deserialize<'de, R> for F64Bits {
+    ghost reads = { λ human lends m v. m ≡ Msg.float64 v.0 };
+
+    ghost absent = { None };
+
+    ghost refuses = { λ s. RefusesExactly s.strict other_kind };
+
+    ghost takes_memory = { λ _. false };
+
+    #[inline(always)]
+    fn deserialize<C: SerializerConfig>(de: &mut Deserializer<R, C>) -> Result<F64Bits, Error> {
+        match de.deserialize_f64_bits() {
+            Ok(bits) => Ok(F64Bits(bits)),
+            Err(e) => Err(e),
+        }
+    }
+
+    fn missing() -> Option<F64Bits> {
+        None
+    }
+}
+
+impl<'de, R: ReadSlice<'de>> Deserialize<'de, R> for () {
+    ghost reads = { λ human lends m _. m ≡ Msg.nil };
+
+    ghost absent = { None };
+
+    ghost refuses = { λ s. RefusesExactly s.strict not_nil };
+
+    ghost takes_memory = { λ _. false };
+
+    #[inline(always)]
+    fn deserialize<C: SerializerConfig>(de: &mut Deserializer<R, C>) -> Result<(), Error> {
+        de.deserialize_unit()
+    }
+
+    fn missing() -> Option<()> {
+        None
+    }
+}
+
+impl<'de, R: ReadSlice<'de>> Deserialize<'de, R> for i128 {
+    ghost reads = { λ human lends. IsSigned128 };
+
+    ghost absent = { None };
+
+    ghost refuses = { λ s. RefusesContent s.strict IsSigned128Head not_wide never_refused };
+
+    ghost takes_memory = { λ _. false };
+
+    #[inline(always)]
+    fn deserialize<C: SerializerConfig>(de: &mut Deserializer<R, C>) -> Result<i128, Error> {
+        de.deserialize_i128()
+    }
+
+    fn missing() -> Option<i128> {
+        None
+    }
+}
+
+impl<'de, R: ReadSlice<'de>> Deserialize<'de, R> for u128 {
+    ghost reads = { λ human lends. IsUnsigned128 };
+
+    ghost absent = { None };
+
+    ghost refuses = { λ s. RefusesContent s.strict IsUnsigned128Head not_wide never_refused };
+
+    ghost takes_memory = { λ _. false };
+
+    #[inline(always)]
+    fn deserialize<C: SerializerConfig>(de: &mut Deserializer<R, C>) -> Result<u128, Error> {
+        de.deserialize_u128()
+    }
+
+    fn missing() -> Option<u128> {
+        None
     }
 }

@@ -1,14 +1,16 @@
 //! Options, unit structs and newtype structs.
-ghost use Rattle.std.specs.Prelude.{◌≡◌, ◌≢◌, ◌≤◌, false, None, Some, get_or, length, IfErr, IfSome, true, Err};
+ghost use Rattle.rmp_decode.specs.Leaves.{ReadsLeaf};
+ghost use Rattle.std.specs.Prelude.{◌≡◌, ◌≢◌, false, None, Some, IfErr, true, Err};
 ghost use Rattle.std.specs.Fn.{FnOnceTakesAtMut};
 ghost use Rattle.rmp_decode.specs.Law.{Lawful};
 ghost use Rattle.rmp_decode.specs.Options.{IsOption, Looks, LooksAhead, OptionRead, RefusesOption, SeesOther};
-ghost use Rattle.rmp_decode.specs.Refusing.{RefusesAs};
-ghost use Rattle.rmp_decode.specs.State.{config_of, is_failed, failed_of, room_of};
+ghost use Rattle.rmp_decode.specs.Refusing.{ReadsAs, RefusesAs};
+ghost use Rattle.rmp_decode.specs.State.{is_failed, failed_of, room_of};
 ghost use Rattle.rmp_decode.specs.Exact.{RefusesHead};
 ghost use Rattle.rmp_decode.specs.Units.{IsExtName, IsNewtype, IsNothing, not_nothing};
 ghost use Rattle.rmp_decode.specs.declared.text.Text.TheVariants as words;
 
+use crate::access::seq::first_of;
 use crate::de::Deserialize;
 use crate::deserializer::heads::Levels;
 use crate::deserializer::peek::{ListOf, NilHead};
@@ -22,17 +24,6 @@ use rmp_wire::{MSGPACK_EXT_STRUCT_NAME, ReadSlice, Source};
 /// The byte of nil.
 const NIL: u8 = 0xc0;
 
-// The first buffered byte.
-#[inline(always)]
-fn first_at(front: &[u8]) -> Option<u8>
-    ensures { IfSome result (λ b. (1 ≤ length front.now) × (b ≡ get_or front.now 0 0)) }
-{
-    match front {
-        [first, ..] => Some(*first),
-        _ => None,
-    }
-}
-
 impl<R: Source, C: SerializerConfig> Deserializer<R, C> {
     // Consumes a buffered nil, or leaves another buffered message where the source tells its bytes; answers which. Returns `None` and
     // consumes nothing otherwise.
@@ -45,7 +36,7 @@ impl<R: Source, C: SerializerConfig> Deserializer<R, C> {
         if !self.begins_ahead() {
             return None;
         }
-        match first_at(self.reader.front()) {
+        match first_of(self.reader.front()) {
             Some(byte) => {
                 if byte == NIL {
                     return if self.reader.skip(1) {
@@ -109,8 +100,8 @@ impl<R: Source, C: SerializerConfig> Deserializer<R, C> {
     pub fn deserialize_option<'de, T: Deserialize<'de, R>>(&mut self) -> Result<Option<T>, Error>
     where
         R: ReadSlice<'de>,
-        ensures law { Lawful R.Source (IsOption (T.reads (C.human (config_of self.old)) R.lends)) self.old self.new result }
-        ensures refused { RefusesAs R.Source (C.human (config_of self.old)) R.lends (RefusesOption T.refuses) self.old self.new result }
+        ensures law { Lawful R.Source (IsOption (T.reads C.human R.lends)) self.old self.new result }
+        ensures refused { RefusesAs R.Source C.human R.lends (RefusesOption T.refuses) self.old self.new result }
         ensures memory { T.takes_memory R.lends ≡ false → IfErr result (λ e. e ≢ Error.OutOfMemory) }
     {
         match self.peek_nil() {
@@ -131,9 +122,8 @@ impl<R: Source, C: SerializerConfig> Deserializer<R, C> {
     fn kept_option<'de, T: Deserialize<'de, R>>(&mut self) -> Result<Option<T>, Error>
     where
         R: ReadSlice<'de>,
-        ensures law { Lawful R.Source (IsOption (T.reads (C.human (config_of self.old)) R.lends)) self.old self.new result }
-        ensures refused { RefusesAs R.Source (C.human (config_of self.old)) R.lends (RefusesOption T.refuses) self.old self.new result }
-        ensures memory { T.takes_memory R.lends ≡ false → IfErr result (λ e. e ≢ Error.OutOfMemory) }
+        ensures { ReadsAs R.Source C.human R.lends (T.takes_memory R.lends) (IsOption (T.reads C.human R.lends)) (RefusesOption T.refuses)
+            self.old self.new result }
     {
         match self.take_nil() {
             Ok(true) => Ok(None),
@@ -202,9 +192,7 @@ impl<R: Source, C: SerializerConfig> Deserializer<R, C> {
     // The slow path of `deserialize_unit_struct`.
     #[inline(never)]
     fn slow_unit_struct(&mut self) -> Result<(), Error>
-        ensures law { Lawful R.Source (λ m _. IsNothing m) self.old self.new result }
-        ensures exact { RefusesHead R.Source (not_nothing (room_of self.old)) self.old self.new result }
-        ensures memory { IfErr result (λ e. e ≢ Error.OutOfMemory) }
+        ensures { ReadsLeaf R.Source (λ m _. IsNothing m) (not_nothing (room_of self.old)) self.old self.new result }
     {
         let (_, head) = match self.opening(Levels::Lists) {
             Ok(next) => next,
@@ -239,8 +227,8 @@ impl<R: Source, C: SerializerConfig> Deserializer<R, C> {
     ) -> Result<T, Error>
     where
         R: ReadSlice<'de>,
-        ensures law { Lawful R.Source (IsNewtype name.now (T.reads (C.human (config_of self.old)) R.lends)) self.old self.new result }
-        ensures refused { (IsExtName name.now → ⊥) → RefusesAs R.Source (C.human (config_of self.old)) R.lends T.refuses self.old self.new result }
+        ensures law { Lawful R.Source (IsNewtype name.now (T.reads C.human R.lends)) self.old self.new result }
+        ensures refused { (IsExtName name.now → ⊥) → RefusesAs R.Source C.human R.lends T.refuses self.old self.new result }
         ensures named { IsExtName name.now → is_failed self.old ≡ false → (result ≡ Err (Error.Syntax words.ReadByExt)) × (self.new ≡ failed_of self.old) }
         ensures memory { T.takes_memory R.lends ≡ false → IfErr result (λ e. e ≢ Error.OutOfMemory) }
     {
@@ -252,5 +240,25 @@ impl<R: Source, C: SerializerConfig> Deserializer<R, C> {
             return Err(Error::Syntax(Text::ReadByExt));
         }
         T::deserialize(self)
+    }
+}
+
+/// Nil is `None`, and any other message is read as the value. A field that is missing is `None`.
+impl<'de, R: ReadSlice<'de>, T: Deserialize<'de, R>> Deserialize<'de, R> for Option<T> {
+    ghost reads = { λ human lends. IsOption (T.reads human lends) };
+
+    ghost absent = { Some None };
+
+    ghost refuses = { RefusesOption T.refuses };
+
+    ghost takes_memory = { T.takes_memory };
+
+    #[inline(always)]
+    fn deserialize<C: SerializerConfig>(de: &mut Deserializer<R, C>) -> Result<Option<T>, Error> {
+        de.deserialize_option()
+    }
+
+    fn missing() -> Option<Option<T>> {
+        Some(None)
     }
 }

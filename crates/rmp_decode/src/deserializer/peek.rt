@@ -1,12 +1,11 @@
 //! The fast path: a buffered head of one kind is recognized by its bytes, and consumed. A message that is only a head is read by it, or by
 //! the slow path.
-ghost use Rattle.std.specs.Prelude.{◌≡◌, ◌≢◌, ◌<◌, ◌≤◌, ◌≤ℤ◌, Bool, pos, true, false, IfSome, IfNone, Ok, IfOk, IfErr, ◌<ℤ◌, ◌+◌, ◌*◌, length, get_or};
+ghost use Rattle.rmp_decode.specs.Leaves.{ReadsLeaf};
+ghost use Rattle.std.specs.Prelude.{◌≡◌, ◌<◌, ◌≤◌, ◌≤ℤ◌, pos, true, false, IfSome, IfNone, Ok, IfOk, IfErr, ◌<ℤ◌, ◌+◌, ◌*◌, length, get_or, MatchOption};
 ghost use Rattle.rmp_wire.specs.declared.head.Head.TheVariants as heads;
 ghost use Rattle.rmp_decode.specs.BufferedHeads.{HeadIn, ConsumesHead, bound_of, least_of};
-ghost use Rattle.rmp_decode.specs.Consumed.{RefusalLeaves, no_payload};
-ghost use Rattle.rmp_decode.specs.Exact.{RefusesHead};
 ghost use Rattle.rmp_decode.specs.Kinds.{raw_head};
-ghost use Rattle.rmp_decode.specs.Law.{Lawful, ReadsHead};
+ghost use Rattle.rmp_decode.specs.Law.{ReadsHead};
 ghost use Rattle.rmp_decode.specs.State.{is_failed, kept_of};
 ghost use Rattle.rmp_decode.specs.declared.deserializer.Kept.TheVariants.{Nothing};
 
@@ -24,7 +23,7 @@ use rmp_wire::{Head, Source};
 
 // A kind of head, and what is looked for in one.
 pub(crate) trait Peek: Copy {
-    ghost use Rattle.std.specs.Prelude.{◌≡◌, Bool, IfSome};
+    ghost use Rattle.std.specs.Prelude.{◌≡◌, IfSome};
     ghost use Rattle.rmp_wire.specs.declared.head.Head.{Head};
     ghost use Rattle.rmp_decode.specs.BufferedHeads.{HeadIn};
 
@@ -136,10 +135,7 @@ impl<R: Source, C: SerializerConfig> Deserializer<R, C> {
     // of line.
     #[inline(always)]
     pub(crate) fn read_leaf<K: Leaf>(&mut self, kind: K) -> Result<K::Value, Error>
-        ensures law { Lawful R.Source (K.reads kind) self.old self.new result }
-        ensures exact { RefusesHead R.Source K.refused self.old self.new result }
-        ensures taken { RefusalLeaves R.Source no_payload self.old self.new result }
-        ensures memory { IfErr result (λ e. e ≢ Error.OutOfMemory) }
+        ensures { ReadsLeaf R.Source (K.reads kind) K.refused self.old self.new result }
     {
         match self.take(kind) {
             Some(value) => {
@@ -156,8 +152,7 @@ impl<R: Source, C: SerializerConfig> Deserializer<R, C> {
     // Consumes a number that was kept back, if it is read as this kind. Returns `None` and consumes nothing otherwise.
     #[inline(always)]
     fn offered<K: Leaf>(&mut self, kind: K) -> Option<K::Value>
-        ensures law { IfSome result (λ v. Lawful R.Source (K.reads kind) self.old self.new (Ok v)) }
-        ensures kept { IfNone result (self.new ≡ self.old) }
+        ensures { MatchOption result (self.new ≡ self.old) (λ v. ReadsLeaf R.Source (K.reads kind) K.refused self.old self.new (Ok v)) }
     {
         if self.failed {
             return None;
@@ -177,19 +172,13 @@ impl<R: Source, C: SerializerConfig> Deserializer<R, C> {
     // The slow path of `read_leaf`, on a moved reader.
     #[inline(always)]
     fn cold_leaf<K: Leaf>(&mut self, kind: K) -> Result<K::Value, Error>
-        ensures law { Lawful R.Source (K.reads kind) self.old self.new result }
-        ensures exact { RefusesHead R.Source K.refused self.old self.new result }
-        ensures taken { RefusalLeaves R.Source no_payload self.old self.new result }
-        ensures memory { IfErr result (λ e. e ≢ Error.OutOfMemory) }
+        ensures { ReadsLeaf R.Source (K.reads kind) K.refused self.old self.new result }
     {
         replace_with(
             self,
             kind,
             |mut de: Deserializer<R, C>, kind: K|
-                ensures law { Lawful R.Source (K.reads kind) de result.0 result.1 }
-                ensures exact { RefusesHead R.Source K.refused de result.0 result.1 }
-                ensures taken { RefusalLeaves R.Source no_payload de result.0 result.1 }
-                ensures memory { IfErr result.1 (λ e. e ≢ Error.OutOfMemory) }
+                ensures { ReadsLeaf R.Source (K.reads kind) K.refused de result.0 result.1 }
             {
                 let read = de.slow_leaf(kind);
                 (de, read)
@@ -200,10 +189,7 @@ impl<R: Source, C: SerializerConfig> Deserializer<R, C> {
     // The slow path of `read_leaf`.
     #[inline(never)]
     fn slow_leaf<K: Leaf>(&mut self, kind: K) -> Result<K::Value, Error>
-        ensures law { Lawful R.Source (K.reads kind) self.old self.new result }
-        ensures exact { RefusesHead R.Source K.refused self.old self.new result }
-        ensures taken { RefusalLeaves R.Source no_payload self.old self.new result }
-        ensures memory { IfErr result (λ e. e ≢ Error.OutOfMemory) }
+        ensures { ReadsLeaf R.Source (K.reads kind) K.refused self.old self.new result }
     {
         match self.head() {
             Ok((marker, head)) => match kind.held(head) {

@@ -1,18 +1,18 @@
 //! Skips messages.
-ghost use Rattle.std.specs.Prelude.{◌≡◌, ◌≢◌, ◌-◌, ◌<◌, true, false, Ok, Err, OnOk, IfOk, IfErr, IfSome};
-ghost use Rattle.rmp_wire.specs.Sources.{IsShort};
+ghost use Rattle.std.specs.Prelude.{◌≡◌, ◌-◌, ◌<◌, true, false, Err, Ok, IfErr, IfSome, MatchResult, OnErr};
 ghost use Rattle.rmp_decode.specs.Ahead.{IsLeafHead, TakesPart};
-ghost use Rattle.rmp_decode.specs.Exact.{IsDataEnd, TellsFault};
+ghost use Rattle.rmp_decode.specs.Exact.{TellsFault};
 ghost use Rattle.rmp_decode.specs.Kinds.{content_len};
-ghost use Rattle.rmp_decode.specs.Law.{Explains, Lawful, ReadsHead};
+ghost use Rattle.rmp_decode.specs.Law.{Lawful, ReadsHead};
 ghost use Rattle.rmp_decode.specs.LeafTable.{SkipsLeaves};
-ghost use Rattle.rmp_decode.specs.Refuse.{UnpassedFor, OpensSome, RefusesFirst, RefusesRowFirst};
-ghost use Rattle.rmp_decode.specs.Skip.{Passes, SkipsRow, any_tree, any_row, parts_count, parts_head};
+ghost use Rattle.rmp_decode.specs.Refuse.{UnpassedFor, OpensSome, RefusesFirst, SkipsMessage, SkipsParts};
+ghost use Rattle.rmp_decode.specs.Skip.{PassesPayload, any_tree, any_row, parts_count, parts_head};
 ghost use Rattle.rmp_decode.specs.State.{faults_of, is_failed, is_strict, kept_of, left, room_of};
 ghost use Rattle.rmp_decode.specs.declared.deserializer.Kept.TheVariants.{Nothing};
 
 mod leaves;
 
+use crate::access::parts::inner_room;
 use crate::content::{ReadContent, Slices};
 use crate::deserializer::Deserializer;
 use crate::deserializer::peek::Peek;
@@ -48,18 +48,13 @@ fn messages(is_map: bool, n: u32) -> u64
 // Skips the payload of a leaf, `len` bytes.
 #[inline(always)]
 fn pass_payload<R: Source, P: ReadContent<R>>(reader: &mut R, len: u32) -> Result<(), Error>
-    ensures ok { OnOk result (Passes len (R.ahead reader.old) (R.ahead reader.new)) }
-    ensures sound { OnOk result (R.faults reader.new ≡ R.faults reader.old) }
-    ensures err { IfErr result (λ e. Explains e (R.faults reader.old) (R.faults reader.new) (IsShort len (R.ahead reader.old))) }
-    ensures end { IfErr result (λ e. Explains e (R.faults reader.old) (R.faults reader.new) (IsDataEnd e)) }
-    ensures fault { IfErr result (TellsFault (R.faults reader.old) (R.faults reader.new)) }
-    ensures memory { P.lends ≡ true → IfErr result (λ e. e ≢ Error.OutOfMemory) }
-    ensures place { R.place reader.new ≡ R.place reader.old }
+    ensures passes { PassesPayload R.Source P.lends len reader.old reader.new result }
+    ensures some { OnErr result (0 < len) }
 {
-    if len == 0 {
-        return Ok(());
+    match len {
+        0 => Ok(()),
+        _ => P::pass(reader, len as usize),
     }
-    P::pass(reader, len as usize)
 }
 
 // Skips leaves that are buffered whole, at most `most`. Returns how many of the `most` messages remain.
@@ -123,8 +118,7 @@ enum Part {
 // first, since buffered leaves were already skipped.
 #[inline(always)]
 fn next_part<R: Source, C: SerializerConfig>(de: &mut Deserializer<R, C>) -> Result<Part, Error>
-    ensures ok { IfOk result (λ p. TakesPart R.Source p de.old de.new) }
-    ensures err { IfErr result (λ e. ReadsHead R.Source de.old de.new (Err e)) }
+    ensures { MatchResult result (λ p. TakesPart R.Source p de.old de.new) (λ e. ReadsHead R.Source de.old de.new (Err e)) }
 {
     match de.take(ShortParts) {
         Some(p) => Ok(Part::Parts(p.0, p.1)),
@@ -135,8 +129,7 @@ fn next_part<R: Source, C: SerializerConfig>(de: &mut Deserializer<R, C>) -> Res
 // The slow path, for any head. Out of line, so that a loop over short lists keeps nothing of a head.
 #[inline(never)]
 fn any_part<R: Source, C: SerializerConfig>(de: &mut Deserializer<R, C>) -> Result<Part, Error>
-    ensures ok { IfOk result (λ p. TakesPart R.Source p de.old de.new) }
-    ensures err { IfErr result (λ e. ReadsHead R.Source de.old de.new (Err e)) }
+    ensures { MatchResult result (λ p. TakesPart R.Source p de.old de.new) (λ e. ReadsHead R.Source de.old de.new (Err e)) }
 {
     match de.any_head() {
         Ok(head) => match head.as_parts() {
@@ -151,10 +144,7 @@ fn any_part<R: Source, C: SerializerConfig>(de: &mut Deserializer<R, C>) -> Resu
 fn skip<R: Source, C: SerializerConfig, P: ReadContent<R>>(
     de: &mut Deserializer<R, C>,
 ) -> Result<(), Error>
-    ensures law { Lawful R.Source any_tree de.old de.new result }
-    ensures exact { IfErr result (RefusesFirst R.Source (UnpassedFor P.lends) any_row de.old de.new) }
-    ensures fault { IfErr result (TellsFault (faults_of R.Source de.old) (faults_of R.Source de.new)) }
-    ensures memory { P.lends ≡ true → IfErr result (λ e. e ≡ Error.OutOfMemory → IfSome (left R.Source de.old) (OpensSome (is_strict de.old))) }
+    ensures { SkipsMessage R.Source P.lends de.old de.new result }
 {
     let part = match next_part(de) {
         Ok(part) => part,
@@ -179,17 +169,13 @@ fn skip_parts<R: Source, C: SerializerConfig, P: ReadContent<R>>(
 ) -> Result<(), Error>
     requires failed { is_failed de.old ≡ true }
     requires clean { kept_of de.old ≡ Nothing }
-    ensures law { SkipsRow R.Source (room_of de.old - 1) count de.old de.new result }
-    ensures deep { IfErr result (λ e. room_of de.old ≡ 1 → e ≡ Error.DepthLimitExceeded) }
-    ensures exact { IfErr result (λ e. 1 < room_of de.old → RefusesRowFirst R.Source (UnpassedFor P.lends) any_row (room_of de.old - 1) count de.old de.new e) }
-    ensures fault { IfErr result (TellsFault (faults_of R.Source de.old) (faults_of R.Source de.new)) }
-    ensures memory { P.lends ≡ true → IfErr result (λ e. e ≡ Error.OutOfMemory → 0 < count) }
+    ensures { SkipsParts R.Source P.lends count de.old de.new result }
 {
     if de.room <= 1 {
         return Err(Error::DepthLimitExceeded);
     }
     // The depth that is left for the messages of the innermost list or map.
-    let mut room = de.room - 1;
+    let mut room = inner_room(de.room, false);
     let mut wanted = count;
     // How many messages remain in each list or map around it, the outermost first.
     let mut outer: Vec<u64> = Vec::new(de.alloc);
@@ -244,14 +230,14 @@ impl<R: Source, C: SerializerConfig> Deserializer<R, C> {
     /// # Errors
     /// That of the first thing that is wrong: `InvalidMarkerRead` if the input ends before a message, `InvalidDataRead`
     /// if it ends inside a head or a payload, `TypeMismatch` at the byte c1, and `DepthLimitExceeded` at a list or a
-    /// map that nests too deep. `OutOfMemory` if a copy of a payload, or a count for a list or a map that is open,
+    /// map that nests too deep. `OutOfMemory` if a copy of a payload, or a count for a list or a map inside of another,
     /// couldn't be allocated.
     pub fn deserialize_ignored_any<'de>(&mut self) -> Result<(), Error>
     where
         R: ReadSlice<'de>,
         ensures law { Lawful R.Source any_tree self.old self.new result }
         // An error names the first thing that is wrong.
-        ensures exact { IfErr result (RefusesFirst R.Source (UnpassedFor R.lends) any_row self.old self.new) }
+        ensures exact { IfErr result (RefusesFirst R.Source (UnpassedFor R.lends (room_of self.old)) any_row self.old self.new) }
         // Where the source had a fault, it says so, or that memory ran out.
         ensures fault { IfErr result (TellsFault (faults_of R.Source self.old) (faults_of R.Source self.new)) }
         // If the source lends its bytes, only a list or a map that isn't empty allocates.

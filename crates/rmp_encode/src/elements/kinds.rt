@@ -4,11 +4,38 @@ ghost use Rattle.rmp_encode.specs.Markers.{value_of};
 ghost use Rattle.rmp_encode.specs.Sizes.{one_of};
 
 use crate::elements::Elements;
+use crate::elements::rows::{Row, add_then, write_fields_then, write_then};
 use crate::error::Error;
 use crate::ser::Serialize;
 use crate::serializer::Serializer;
+use crate::tuple::Tuple;
 use rmp_wire::Sink;
 use rmp_wire::config::SerializerConfig;
+
+// These references as elements.
+macro_rules! row {
+    ($a:expr) => {
+        One { first: $a }
+    };
+    ($a:expr, $b:expr) => {
+        Both { first: $a, second: $b }
+    };
+    ($a:expr, $b:expr, $c:expr) => {
+        Three { first: $a, second: $b, third: $c }
+    };
+    ($a:expr, $b:expr, $c:expr, $d:expr) => {
+        Four { first: $a, second: $b, third: $c, fourth: $d }
+    };
+    ($a:expr, $b:expr, $c:expr, $d:expr, $e:expr) => {
+        Five { first: $a, second: $b, third: $c, fourth: $d, fifth: $e }
+    };
+    ($a:expr, $b:expr, $c:expr, $d:expr, $e:expr, $f:expr) => {
+        Six { first: $a, second: $b, third: $c, fourth: $d, fifth: $e, sixth: $f }
+    };
+    ($a:expr, $b:expr, $c:expr, $d:expr, $e:expr, $f:expr, $g:expr) => {
+        Seven { first: $a, second: $b, third: $c, fourth: $d, fifth: $e, sixth: $f, seventh: $g }
+    };
+}
 
 /// One element.
 #[derive(Drop)]
@@ -39,8 +66,7 @@ impl<'r, E1: Serialize> Elements for One<'r, E1> {
 
     #[inline(always)]
     fn write<W: Sink, C: SerializerConfig>(&self, se: &mut Serializer<W, C>) -> Result<(), Error> {
-        Serialize::serialize(self.first, se)?;
-        Ok(())
+        self.first.serialize(se)
     }
 
     #[inline(always)]
@@ -49,8 +75,14 @@ impl<'r, E1: Serialize> Elements for One<'r, E1> {
         names: &[&'static str],
         se: &mut Serializer<W, C>,
     ) -> Result<(), Error> {
-        se.put_field(names[0], self.first)?;
-        Ok(())
+        se.put_field(names[0], self.first)
+    }
+}
+
+impl<'r, E1: Serialize> Row for One<'r, E1> {
+    #[inline(always)]
+    fn add_to<W: Sink, C: SerializerConfig>(&self, tup: &mut Tuple<'_, W, C>) -> Result<(), Error> {
+        tup.serialize_element(self.first)
     }
 }
 
@@ -85,9 +117,8 @@ impl<'r, E1: Serialize, E2: Serialize> Elements for Both<'r, E1, E2> {
 
     #[inline(always)]
     fn write<W: Sink, C: SerializerConfig>(&self, se: &mut Serializer<W, C>) -> Result<(), Error> {
-        Serialize::serialize(self.first, se)?;
-        Serialize::serialize(self.second, se)?;
-        Ok(())
+        let rest = row!(self.second);
+        write_then(self.first, &rest, se)
     }
 
     #[inline(always)]
@@ -96,9 +127,16 @@ impl<'r, E1: Serialize, E2: Serialize> Elements for Both<'r, E1, E2> {
         names: &[&'static str],
         se: &mut Serializer<W, C>,
     ) -> Result<(), Error> {
-        se.put_field(names[0], self.first)?;
-        se.put_field(names[1], self.second)?;
-        Ok(())
+        let rest = row!(self.second);
+        write_fields_then(self.first, &rest, names, se)
+    }
+}
+
+impl<'r, E1: Serialize, E2: Serialize> Row for Both<'r, E1, E2> {
+    #[inline(always)]
+    fn add_to<W: Sink, C: SerializerConfig>(&self, tup: &mut Tuple<'_, W, C>) -> Result<(), Error> {
+        let rest = row!(self.second);
+        add_then(self.first, &rest, tup)
     }
 }
 
@@ -135,13 +173,8 @@ impl<'r, E1: Serialize, E2: Serialize, E3: Serialize> Elements for Three<'r, E1,
 
     #[inline(always)]
     fn write<W: Sink, C: SerializerConfig>(&self, se: &mut Serializer<W, C>) -> Result<(), Error> {
-        let front = Both {
-            first: self.first,
-            second: self.second,
-        };
-        let back = One { first: self.third };
-        front.write(se)?;
-        back.write(se)
+        let rest = row!(self.second, self.third);
+        write_then(self.first, &rest, se)
     }
 
     #[inline(always)]
@@ -150,13 +183,16 @@ impl<'r, E1: Serialize, E2: Serialize, E3: Serialize> Elements for Three<'r, E1,
         names: &[&'static str],
         se: &mut Serializer<W, C>,
     ) -> Result<(), Error> {
-        let front = Both {
-            first: self.first,
-            second: self.second,
-        };
-        let back = One { first: self.third };
-        front.write_fields(&names[..2], se)?;
-        back.write_fields(&names[2..], se)
+        let rest = row!(self.second, self.third);
+        write_fields_then(self.first, &rest, names, se)
+    }
+}
+
+impl<'r, E1: Serialize, E2: Serialize, E3: Serialize> Row for Three<'r, E1, E2, E3> {
+    #[inline(always)]
+    fn add_to<W: Sink, C: SerializerConfig>(&self, tup: &mut Tuple<'_, W, C>) -> Result<(), Error> {
+        let rest = row!(self.second, self.third);
+        add_then(self.first, &rest, tup)
     }
 }
 
@@ -197,16 +233,8 @@ impl<'r, E1: Serialize, E2: Serialize, E3: Serialize, E4: Serialize> Elements
 
     #[inline(always)]
     fn write<W: Sink, C: SerializerConfig>(&self, se: &mut Serializer<W, C>) -> Result<(), Error> {
-        let front = Both {
-            first: self.first,
-            second: self.second,
-        };
-        let back = Both {
-            first: self.third,
-            second: self.fourth,
-        };
-        front.write(se)?;
-        back.write(se)
+        let rest = row!(self.second, self.third, self.fourth);
+        write_then(self.first, &rest, se)
     }
 
     #[inline(always)]
@@ -215,16 +243,17 @@ impl<'r, E1: Serialize, E2: Serialize, E3: Serialize, E4: Serialize> Elements
         names: &[&'static str],
         se: &mut Serializer<W, C>,
     ) -> Result<(), Error> {
-        let front = Both {
-            first: self.first,
-            second: self.second,
-        };
-        let back = Both {
-            first: self.third,
-            second: self.fourth,
-        };
-        front.write_fields(&names[..2], se)?;
-        back.write_fields(&names[2..], se)
+        let rest = row!(self.second, self.third, self.fourth);
+        write_fields_then(self.first, &rest, names, se)
+    }
+}
+
+impl<'r, E1: Serialize, E2: Serialize, E3: Serialize, E4: Serialize> Row
+    for Four<'r, E1, E2, E3, E4> {
+    #[inline(always)]
+    fn add_to<W: Sink, C: SerializerConfig>(&self, tup: &mut Tuple<'_, W, C>) -> Result<(), Error> {
+        let rest = row!(self.second, self.third, self.fourth);
+        add_then(self.first, &rest, tup)
     }
 }
 
@@ -268,15 +297,8 @@ impl<'r, E1: Serialize, E2: Serialize, E3: Serialize, E4: Serialize, E5: Seriali
 
     #[inline(always)]
     fn write<W: Sink, C: SerializerConfig>(&self, se: &mut Serializer<W, C>) -> Result<(), Error> {
-        let front = Four {
-            first: self.first,
-            second: self.second,
-            third: self.third,
-            fourth: self.fourth,
-        };
-        let back = One { first: self.fifth };
-        front.write(se)?;
-        back.write(se)
+        let rest = row!(self.second, self.third, self.fourth, self.fifth);
+        write_then(self.first, &rest, se)
     }
 
     #[inline(always)]
@@ -285,15 +307,17 @@ impl<'r, E1: Serialize, E2: Serialize, E3: Serialize, E4: Serialize, E5: Seriali
         names: &[&'static str],
         se: &mut Serializer<W, C>,
     ) -> Result<(), Error> {
-        let front = Four {
-            first: self.first,
-            second: self.second,
-            third: self.third,
-            fourth: self.fourth,
-        };
-        let back = One { first: self.fifth };
-        front.write_fields(&names[..4], se)?;
-        back.write_fields(&names[4..], se)
+        let rest = row!(self.second, self.third, self.fourth, self.fifth);
+        write_fields_then(self.first, &rest, names, se)
+    }
+}
+
+impl<'r, E1: Serialize, E2: Serialize, E3: Serialize, E4: Serialize, E5: Serialize> Row
+    for Five<'r, E1, E2, E3, E4, E5> {
+    #[inline(always)]
+    fn add_to<W: Sink, C: SerializerConfig>(&self, tup: &mut Tuple<'_, W, C>) -> Result<(), Error> {
+        let rest = row!(self.second, self.third, self.fourth, self.fifth);
+        add_then(self.first, &rest, tup)
     }
 }
 
@@ -348,18 +372,8 @@ impl<
 
     #[inline(always)]
     fn write<W: Sink, C: SerializerConfig>(&self, se: &mut Serializer<W, C>) -> Result<(), Error> {
-        let front = Four {
-            first: self.first,
-            second: self.second,
-            third: self.third,
-            fourth: self.fourth,
-        };
-        let back = Both {
-            first: self.fifth,
-            second: self.sixth,
-        };
-        front.write(se)?;
-        back.write(se)
+        let rest = row!(self.second, self.third, self.fourth, self.fifth, self.sixth);
+        write_then(self.first, &rest, se)
     }
 
     #[inline(always)]
@@ -368,18 +382,24 @@ impl<
         names: &[&'static str],
         se: &mut Serializer<W, C>,
     ) -> Result<(), Error> {
-        let front = Four {
-            first: self.first,
-            second: self.second,
-            third: self.third,
-            fourth: self.fourth,
-        };
-        let back = Both {
-            first: self.fifth,
-            second: self.sixth,
-        };
-        front.write_fields(&names[..4], se)?;
-        back.write_fields(&names[4..], se)
+        let rest = row!(self.second, self.third, self.fourth, self.fifth, self.sixth);
+        write_fields_then(self.first, &rest, names, se)
+    }
+}
+
+impl<
+    'r,
+    E1: Serialize,
+    E2: Serialize,
+    E3: Serialize,
+    E4: Serialize,
+    E5: Serialize,
+    E6: Serialize,
+> Row for Six<'r, E1, E2, E3, E4, E5, E6> {
+    #[inline(always)]
+    fn add_to<W: Sink, C: SerializerConfig>(&self, tup: &mut Tuple<'_, W, C>) -> Result<(), Error> {
+        let rest = row!(self.second, self.third, self.fourth, self.fifth, self.sixth);
+        add_then(self.first, &rest, tup)
     }
 }
 
@@ -437,19 +457,15 @@ impl<
 
     #[inline(always)]
     fn write<W: Sink, C: SerializerConfig>(&self, se: &mut Serializer<W, C>) -> Result<(), Error> {
-        let front = Four {
-            first: self.first,
-            second: self.second,
-            third: self.third,
-            fourth: self.fourth,
-        };
-        let back = Three {
-            first: self.fifth,
-            second: self.sixth,
-            third: self.seventh,
-        };
-        front.write(se)?;
-        back.write(se)
+        let rest = row!(
+            self.second,
+            self.third,
+            self.fourth,
+            self.fifth,
+            self.sixth,
+            self.seventh
+        );
+        write_then(self.first, &rest, se)
     }
 
     #[inline(always)]
@@ -458,19 +474,39 @@ impl<
         names: &[&'static str],
         se: &mut Serializer<W, C>,
     ) -> Result<(), Error> {
-        let front = Four {
-            first: self.first,
-            second: self.second,
-            third: self.third,
-            fourth: self.fourth,
-        };
-        let back = Three {
-            first: self.fifth,
-            second: self.sixth,
-            third: self.seventh,
-        };
-        front.write_fields(&names[..4], se)?;
-        back.write_fields(&names[4..], se)
+        let rest = row!(
+            self.second,
+            self.third,
+            self.fourth,
+            self.fifth,
+            self.sixth,
+            self.seventh
+        );
+        write_fields_then(self.first, &rest, names, se)
+    }
+}
+
+impl<
+    'r,
+    E1: Serialize,
+    E2: Serialize,
+    E3: Serialize,
+    E4: Serialize,
+    E5: Serialize,
+    E6: Serialize,
+    E7: Serialize,
+> Row for Seven<'r, E1, E2, E3, E4, E5, E6, E7> {
+    #[inline(always)]
+    fn add_to<W: Sink, C: SerializerConfig>(&self, tup: &mut Tuple<'_, W, C>) -> Result<(), Error> {
+        let rest = row!(
+            self.second,
+            self.third,
+            self.fourth,
+            self.fifth,
+            self.sixth,
+            self.seventh
+        );
+        add_then(self.first, &rest, tup)
     }
 }
 
@@ -533,20 +569,16 @@ impl<
 
     #[inline(always)]
     fn write<W: Sink, C: SerializerConfig>(&self, se: &mut Serializer<W, C>) -> Result<(), Error> {
-        let front = Five {
-            first: self.first,
-            second: self.second,
-            third: self.third,
-            fourth: self.fourth,
-            fifth: self.fifth,
-        };
-        let back = Three {
-            first: self.sixth,
-            second: self.seventh,
-            third: self.eighth,
-        };
-        front.write(se)?;
-        back.write(se)
+        let rest = row!(
+            self.second,
+            self.third,
+            self.fourth,
+            self.fifth,
+            self.sixth,
+            self.seventh,
+            self.eighth
+        );
+        write_then(self.first, &rest, se)
     }
 
     #[inline(always)]
@@ -555,19 +587,41 @@ impl<
         names: &[&'static str],
         se: &mut Serializer<W, C>,
     ) -> Result<(), Error> {
-        let front = Five {
-            first: self.first,
-            second: self.second,
-            third: self.third,
-            fourth: self.fourth,
-            fifth: self.fifth,
-        };
-        let back = Three {
-            first: self.sixth,
-            second: self.seventh,
-            third: self.eighth,
-        };
-        front.write_fields(&names[..5], se)?;
-        back.write_fields(&names[5..], se)
+        let rest = row!(
+            self.second,
+            self.third,
+            self.fourth,
+            self.fifth,
+            self.sixth,
+            self.seventh,
+            self.eighth
+        );
+        write_fields_then(self.first, &rest, names, se)
+    }
+}
+
+impl<
+    'r,
+    E1: Serialize,
+    E2: Serialize,
+    E3: Serialize,
+    E4: Serialize,
+    E5: Serialize,
+    E6: Serialize,
+    E7: Serialize,
+    E8: Serialize,
+> Row for Eight<'r, E1, E2, E3, E4, E5, E6, E7, E8> {
+    #[inline(always)]
+    fn add_to<W: Sink, C: SerializerConfig>(&self, tup: &mut Tuple<'_, W, C>) -> Result<(), Error> {
+        let rest = row!(
+            self.second,
+            self.third,
+            self.fourth,
+            self.fifth,
+            self.sixth,
+            self.seventh,
+            self.eighth
+        );
+        add_then(self.first, &rest, tup)
     }
 }

@@ -2,7 +2,7 @@
 //!
 //! Only their elements and the sink may allocate. 2 ^ 32 elements or pairs or more are refused, and nothing is
 //! written.
-ghost use Rattle.std.specs.Prelude.{◌≡◌, ◌^◌, ◌≤◌, ◌||◌, map, length, All, IfErr, OnOk};
+ghost use Rattle.std.specs.Prelude.{◌^◌, ◌≤◌, ◌||◌, map, length, All, IfErr, OnOk};
 ghost use Rattle.std.specs.List.Sorted.{IsStrictlySortedBy};
 ghost use Rattle.std.specs.Map.{keys_of};
 ghost use Rattle.rmp_encode.specs.Refusals.{OfEntries, OfItems, RefusesLength};

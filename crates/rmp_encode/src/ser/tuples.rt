@@ -6,9 +6,11 @@ ghost use Rattle.rmp_encode.specs.Refusals.{OfParts};
 ghost use Rattle.rmp_encode.specs.Sizes.{one_of};
 ghost use Rattle.rmp_encode.specs.Trees.{forces_all, tuple_of};
 
+use crate::elements::{Both, Eight, Five, Four, One, Seven, Six, Three};
 use crate::error::Error;
 use crate::ser::Serialize;
 use crate::serializer::Serializer;
+use crate::tuple::put_row;
 use rmp_wire::Sink;
 use rmp_wire::config::SerializerConfig;
 
@@ -25,9 +27,8 @@ impl<E1: Serialize> Serialize for (E1,) {
         &self,
         se: &mut Serializer<W, C>,
     ) -> Result<(), Error> {
-        let mut tup = se.serialize_tuple(1)?;
-        tup.serialize_element(&self.0)?;
-        tup.end()
+        let elements = One { first: &self.0 };
+        put_row(se, 1, &elements)
     }
 
     #[tactic(auto, using(crate::proofs::Packing::tuple_no_byte))]
@@ -50,9 +51,11 @@ impl<E1: Serialize, E2: Serialize> Serialize for (E1, E2) {
         &self,
         se: &mut Serializer<W, C>,
     ) -> Result<(), Error> {
-        let mut tup = se.serialize_tuple(2)?;
-        tup.two(&self.0, &self.1)?;
-        tup.end()
+        let elements = Both {
+            first: &self.0,
+            second: &self.1,
+        };
+        put_row(se, 2, &elements)
     }
 
     #[tactic(auto, using(crate::proofs::Packing::tuple_no_byte))]
@@ -75,9 +78,12 @@ impl<E1: Serialize, E2: Serialize, E3: Serialize> Serialize for (E1, E2, E3) {
         &self,
         se: &mut Serializer<W, C>,
     ) -> Result<(), Error> {
-        let mut tup = se.serialize_tuple(3)?;
-        tup.three(&self.0, &self.1, &self.2)?;
-        tup.end()
+        let elements = Three {
+            first: &self.0,
+            second: &self.1,
+            third: &self.2,
+        };
+        put_row(se, 3, &elements)
     }
 
     #[tactic(auto, using(crate::proofs::Packing::tuple_no_byte))]
@@ -100,9 +106,13 @@ impl<E1: Serialize, E2: Serialize, E3: Serialize, E4: Serialize> Serialize for (
         &self,
         se: &mut Serializer<W, C>,
     ) -> Result<(), Error> {
-        let mut tup = se.serialize_tuple(4)?;
-        tup.four(&self.0, &self.1, &self.2, &self.3)?;
-        tup.end()
+        let elements = Four {
+            first: &self.0,
+            second: &self.1,
+            third: &self.2,
+            fourth: &self.3,
+        };
+        put_row(se, 4, &elements)
     }
 
     #[tactic(auto, using(crate::proofs::Packing::tuple_no_byte))]
@@ -128,10 +138,14 @@ impl<E1: Serialize, E2: Serialize, E3: Serialize, E4: Serialize, E5: Serialize> 
         &self,
         se: &mut Serializer<W, C>,
     ) -> Result<(), Error> {
-        let mut tup = se.serialize_tuple(5)?;
-        tup.four(&self.0, &self.1, &self.2, &self.3)?;
-        tup.serialize_element(&self.4)?;
-        tup.end()
+        let elements = Five {
+            first: &self.0,
+            second: &self.1,
+            third: &self.2,
+            fourth: &self.3,
+            fifth: &self.4,
+        };
+        put_row(se, 5, &elements)
     }
 
     #[tactic(auto, using(crate::proofs::Packing::tuple_no_byte))]
@@ -163,11 +177,15 @@ impl<
         &self,
         se: &mut Serializer<W, C>,
     ) -> Result<(), Error> {
-        let mut tup = se.serialize_tuple(6)?;
-        tup.four(&self.0, &self.1, &self.2, &self.3)?;
-        tup.serialize_element(&self.4)?;
-        tup.serialize_element(&self.5)?;
-        tup.end()
+        let elements = Six {
+            first: &self.0,
+            second: &self.1,
+            third: &self.2,
+            fourth: &self.3,
+            fifth: &self.4,
+            sixth: &self.5,
+        };
+        put_row(se, 6, &elements)
     }
 
     #[tactic(auto, using(crate::proofs::Packing::tuple_no_byte))]
@@ -202,12 +220,16 @@ impl<
         &self,
         se: &mut Serializer<W, C>,
     ) -> Result<(), Error> {
-        let mut tup = se.serialize_tuple(7)?;
-        tup.four(&self.0, &self.1, &self.2, &self.3)?;
-        tup.serialize_element(&self.4)?;
-        tup.serialize_element(&self.5)?;
-        tup.serialize_element(&self.6)?;
-        tup.end()
+        let elements = Seven {
+            first: &self.0,
+            second: &self.1,
+            third: &self.2,
+            fourth: &self.3,
+            fifth: &self.4,
+            sixth: &self.5,
+            seventh: &self.6,
+        };
+        put_row(se, 7, &elements)
     }
 
     #[tactic(auto, using(crate::proofs::Packing::tuple_no_byte))]
@@ -244,13 +266,17 @@ impl<
         &self,
         se: &mut Serializer<W, C>,
     ) -> Result<(), Error> {
-        let mut tup = se.serialize_tuple(8)?;
-        tup.four(&self.0, &self.1, &self.2, &self.3)?;
-        tup.serialize_element(&self.4)?;
-        tup.serialize_element(&self.5)?;
-        tup.serialize_element(&self.6)?;
-        tup.serialize_element(&self.7)?;
-        tup.end()
+        let elements = Eight {
+            first: &self.0,
+            second: &self.1,
+            third: &self.2,
+            fourth: &self.3,
+            fifth: &self.4,
+            sixth: &self.5,
+            seventh: &self.6,
+            eighth: &self.7,
+        };
+        put_row(se, 8, &elements)
     }
 
     #[tactic(auto, using(crate::proofs::Packing::tuple_no_byte))]

@@ -1,12 +1,13 @@
 //! Opening lists, maps, tuples, structs and variants: the head is written, and a compound writes the parts. And variants without parts.
 ghost use Rattle.std.specs.Prelude.{◌≡◌, ◌+◌, ◌≤◌, ◌<◌, ◌^◌, ◌||◌, ◌∷◌, [], true, false, OnOk, IfOk, IfErr, Some, length, ◌++◌};
 ghost use Rattle.std.specs.Borrow.{sem};
-ghost use Rattle.rmp_encode.specs.Going.{Rests, head_at, Begins};
+ghost use Rattle.rmp_encode.specs.Going.{Rests, head_at};
+ghost use Rattle.rmp_encode.specs.Promises.{OpensParts, WritesItems};
 ghost use Rattle.rmp_encode.specs.Refusals.{OfParts, RefusesLength, AnyLong, OfLength};
 ghost use Rattle.rmp_encode.specs.Ser.{sink_of, settings_of};
 ghost use Rattle.rmp_encode.specs.Trees.{tree_of, sequence_of, mapping_of, tuple_of, field_parts, structure_of, newtype_variant_of, tuple_variant_of};
 ghost use Rattle.rmp_encode.specs.Trees.{map_head, struct_variant_of, variant_head, variant_items};
-ghost use Rattle.rmp_encode.specs.Writes.{Keeps, NoneAtMarker, WritesPart, WritesTree, StaysAtRefusal};
+ghost use Rattle.rmp_encode.specs.Writes.{Keeps, NoneAtMarker, WritesTree, StaysAtRefusal};
 ghost use Rattle.std.specs.List.{flat_map};
 ghost use Rattle.rmp_wire.specs.Msg.{text};
 ghost use Rattle.rmp_wire.specs.Spelling.{canon};
@@ -231,9 +232,7 @@ impl<W: Sink, C: SerializerConfig> Serializer<W, C> {
     #[inline(always)]
     fn put_variant(&mut self, name: &str) -> Result<(), Error>
         requires { length name.now < 2 ^ 32 }
-        ensures writes { WritesPart W.Sink W.takes_memory (Unit {0}) (variant_head name.now) (sink_of self.old) (sink_of self.new) result }
-        ensures order { InOrder W.Sink (items_of (map_head 1 ∷ canon (text name.now) ∷ [])) (sink_of self.old) (sink_of self.new) result }
-        ensures keeps { Keeps W.Sink self.old self.new }
+        ensures { WritesItems W.Sink (map_head 1 ∷ canon (text name.now) ∷ []) (variant_head name.now) self.old self.new result }
     {
         self.put_head(true, 1)?;
         self.put_word(name)
@@ -249,14 +248,8 @@ impl<W: Sink, C: SerializerConfig> Serializer<W, C> {
         pairs: bool,
         len: usize,
     ) -> Result<(), Error>
-        ensures begins { Begins W.Sink ((length variant.now < 2 ^ 32) × (len < 2 ^ 32)) (variant_head variant.now ++ head_at pairs len) self.old self.new
-            result }
-        ensures keeps { Keeps W.Sink self.old self.new }
-        ensures stays { StaysAtRefusal self.old self.new result }
-        ensures long { ¬ ((length variant.now < 2 ^ 32) × (len < 2 ^ 32)) → RefusesLength self.old self.new result }
-        ensures order { InOrder W.Sink (items_of (variant_items variant.now (head_at pairs len))) (sink_of self.old) (sink_of self.new) result }
-        ensures error { IfErr result (OfLength (AnyLong (length variant.now ∷ len ∷ []))) }
-        ensures fits { OnOk result ((length variant.now < 2 ^ 32) × (len < 2 ^ 32)) }
+        ensures { OpensParts W.Sink ((length variant.now < 2 ^ 32) × (len < 2 ^ 32)) (length variant.now ∷ len ∷ [])
+            (variant_items variant.now (head_at pairs len)) (variant_head variant.now ++ head_at pairs len) self.old self.new result }
     {
         let count = fits_u32(len)?;
         fits_u32(variant.len())?;

@@ -5,10 +5,15 @@ ghost use Rattle.rmp_round_trip.specs.LeafRounds.{signed_row_64, truth_row, unit
 ghost use Rattle.rmp_round_trip.specs.LeafRounds.{whole_other, unsigned128_other, signed128_other, truth_other, float32_other, float64_other};
 ghost use Rattle.rmp_round_trip.specs.OnlyLeaves.{unit_only, truth_only, byte_only, unsigned_only, signed_only, float32_only, float64_only};
 ghost use Rattle.rmp_round_trip.specs.OnlyLeaves.{unsigned128_only, signed128_only};
-ghost use Rattle.std.specs.Prelude.{◌≡◌, pos, negsuc};
+ghost use Rattle.rmp_encode.specs.Data.{byte, signed128, truth, unsigned128, whole};
+ghost use Rattle.rmp_round_trip.specs.AlikeData.{float32_alike, float64_alike};
+ghost use Rattle.rmp_round_trip.specs.AlikeOrder.{tied};
+ghost use Rattle.std.specs.Cmp.{bool_cmp_total, int_cmp_total, nat_cmp_total};
+ghost use Rattle.std.specs.Ordering.{bool_cmp, int_cmp, nat_cmp};
+ghost use Rattle.std.specs.Prelude.{◌≡◌, Some, pos, negsuc};
 ghost use Rattle.rmp_round_trip.specs.WideRounds.{unsigned128_row, signed128_row};
 
-use crate::round_trip::{NeverNil, RoundTrip};
+use crate::round_trip::{ContentOrd, NeverNil, RoundTrip};
 use rmp_wire::{F32Bits, F64Bits, ReadSlice};
 
 impl<'de, R: ReadSlice<'de>> RoundTrip<'de, R> for () {
@@ -18,7 +23,13 @@ impl<'de, R: ReadSlice<'de>> RoundTrip<'de, R> for () {
 
     ghost same = { λ v w. Unit {0} };
 
+    ghost alike = { λ human v w h. refl };
+
     ghost only = { λ s v fits. unit_only s };
+}
+
+impl<'de, R: ReadSlice<'de>> ContentOrd<'de, R> for () {
+    ghost equal = { λ v w h. refl };
 }
 
 impl<'de, R: ReadSlice<'de>> RoundTrip<'de, R> for bool {
@@ -28,11 +39,17 @@ impl<'de, R: ReadSlice<'de>> RoundTrip<'de, R> for bool {
 
     ghost same = { λ v w. v ≡ w };
 
+    ghost alike = { λ human v w h i. Some (truth (h i)) };
+
     ghost only = { λ s v fits. truth_only s v };
 }
 
 impl NeverNil for bool {
     ghost never_nil = { λ s v. truth_other s v };
+}
+
+impl<'de, R: ReadSlice<'de>> ContentOrd<'de, R> for bool {
+    ghost equal = { λ v w h. tied bool_cmp bool_cmp_total v w h };
 }
 
 impl<'de, R: ReadSlice<'de>> RoundTrip<'de, R> for u8 {
@@ -42,11 +59,17 @@ impl<'de, R: ReadSlice<'de>> RoundTrip<'de, R> for u8 {
 
     ghost same = { λ v w. v ≡ w };
 
+    ghost alike = { λ human v w h i. Some (byte (h i)) };
+
     ghost only = { λ s v fits. byte_only s v };
 }
 
 impl NeverNil for u8 {
     ghost never_nil = { λ s v. byte_other s v };
+}
+
+impl<'de, R: ReadSlice<'de>> ContentOrd<'de, R> for u8 {
+    ghost equal = { λ v w h. tied nat_cmp nat_cmp_total v w h };
 }
 
 impl<'de, R: ReadSlice<'de>> RoundTrip<'de, R> for u16 {
@@ -56,11 +79,17 @@ impl<'de, R: ReadSlice<'de>> RoundTrip<'de, R> for u16 {
 
     ghost same = { λ v w. v ≡ w };
 
+    ghost alike = { λ human v w h i. Some (whole (pos (h i))) };
+
     ghost only = { λ s v fits. unsigned_only s 65535 v };
 }
 
 impl NeverNil for u16 {
     ghost never_nil = { λ s v. pos_other s v };
+}
+
+impl<'de, R: ReadSlice<'de>> ContentOrd<'de, R> for u16 {
+    ghost equal = { λ v w h. tied nat_cmp nat_cmp_total v w h };
 }
 
 impl<'de, R: ReadSlice<'de>> RoundTrip<'de, R> for u32 {
@@ -70,11 +99,17 @@ impl<'de, R: ReadSlice<'de>> RoundTrip<'de, R> for u32 {
 
     ghost same = { λ v w. v ≡ w };
 
+    ghost alike = { λ human v w h i. Some (whole (pos (h i))) };
+
     ghost only = { λ s v fits. unsigned_only s 4294967295 v };
 }
 
 impl NeverNil for u32 {
     ghost never_nil = { λ s v. pos_other s v };
+}
+
+impl<'de, R: ReadSlice<'de>> ContentOrd<'de, R> for u32 {
+    ghost equal = { λ v w h. tied nat_cmp nat_cmp_total v w h };
 }
 
 impl<'de, R: ReadSlice<'de>> RoundTrip<'de, R> for u64 {
@@ -84,11 +119,17 @@ impl<'de, R: ReadSlice<'de>> RoundTrip<'de, R> for u64 {
 
     ghost same = { λ v w. v ≡ w };
 
+    ghost alike = { λ human v w h i. Some (whole (pos (h i))) };
+
     ghost only = { λ s v fits. unsigned_only s 18446744073709551615 v };
 }
 
 impl NeverNil for u64 {
     ghost never_nil = { λ s v. pos_other s v };
+}
+
+impl<'de, R: ReadSlice<'de>> ContentOrd<'de, R> for u64 {
+    ghost equal = { λ v w h. tied nat_cmp nat_cmp_total v w h };
 }
 
 impl<'de, R: ReadSlice<'de>> RoundTrip<'de, R> for usize {
@@ -98,11 +139,17 @@ impl<'de, R: ReadSlice<'de>> RoundTrip<'de, R> for usize {
 
     ghost same = { λ v w. v ≡ w };
 
+    ghost alike = { λ human v w h i. Some (whole (pos (h i))) };
+
     ghost only = { λ s v fits. unsigned_only s 18446744073709551615 v };
 }
 
 impl NeverNil for usize {
     ghost never_nil = { λ s v. pos_other s v };
+}
+
+impl<'de, R: ReadSlice<'de>> ContentOrd<'de, R> for usize {
+    ghost equal = { λ v w h. tied nat_cmp nat_cmp_total v w h };
 }
 
 impl<'de, R: ReadSlice<'de>> RoundTrip<'de, R> for i8 {
@@ -112,11 +159,17 @@ impl<'de, R: ReadSlice<'de>> RoundTrip<'de, R> for i8 {
 
     ghost same = { λ v w. v ≡ w };
 
+    ghost alike = { λ human v w h i. Some (whole (h i)) };
+
     ghost only = { λ s v fits. signed_only s (negsuc 127) (pos 127) v };
 }
 
 impl NeverNil for i8 {
     ghost never_nil = { λ s v. whole_other s v };
+}
+
+impl<'de, R: ReadSlice<'de>> ContentOrd<'de, R> for i8 {
+    ghost equal = { λ v w h. tied int_cmp int_cmp_total v w h };
 }
 
 impl<'de, R: ReadSlice<'de>> RoundTrip<'de, R> for i16 {
@@ -126,11 +179,17 @@ impl<'de, R: ReadSlice<'de>> RoundTrip<'de, R> for i16 {
 
     ghost same = { λ v w. v ≡ w };
 
+    ghost alike = { λ human v w h i. Some (whole (h i)) };
+
     ghost only = { λ s v fits. signed_only s (negsuc 32767) (pos 32767) v };
 }
 
 impl NeverNil for i16 {
     ghost never_nil = { λ s v. whole_other s v };
+}
+
+impl<'de, R: ReadSlice<'de>> ContentOrd<'de, R> for i16 {
+    ghost equal = { λ v w h. tied int_cmp int_cmp_total v w h };
 }
 
 impl<'de, R: ReadSlice<'de>> RoundTrip<'de, R> for i32 {
@@ -140,11 +199,17 @@ impl<'de, R: ReadSlice<'de>> RoundTrip<'de, R> for i32 {
 
     ghost same = { λ v w. v ≡ w };
 
+    ghost alike = { λ human v w h i. Some (whole (h i)) };
+
     ghost only = { λ s v fits. signed_only s (negsuc 2147483647) (pos 2147483647) v };
 }
 
 impl NeverNil for i32 {
     ghost never_nil = { λ s v. whole_other s v };
+}
+
+impl<'de, R: ReadSlice<'de>> ContentOrd<'de, R> for i32 {
+    ghost equal = { λ v w h. tied int_cmp int_cmp_total v w h };
 }
 
 impl<'de, R: ReadSlice<'de>> RoundTrip<'de, R> for i64 {
@@ -154,11 +219,17 @@ impl<'de, R: ReadSlice<'de>> RoundTrip<'de, R> for i64 {
 
     ghost same = { λ v w. v ≡ w };
 
+    ghost alike = { λ human v w h i. Some (whole (h i)) };
+
     ghost only = { λ s v fits. signed_only s (negsuc 9223372036854775807) (pos 9223372036854775807) v };
 }
 
 impl NeverNil for i64 {
     ghost never_nil = { λ s v. whole_other s v };
+}
+
+impl<'de, R: ReadSlice<'de>> ContentOrd<'de, R> for i64 {
+    ghost equal = { λ v w h. tied int_cmp int_cmp_total v w h };
 }
 
 impl<'de, R: ReadSlice<'de>> RoundTrip<'de, R> for isize {
@@ -168,11 +239,17 @@ impl<'de, R: ReadSlice<'de>> RoundTrip<'de, R> for isize {
 
     ghost same = { λ v w. v ≡ w };
 
+    ghost alike = { λ human v w h i. Some (whole (h i)) };
+
     ghost only = { λ s v fits. signed_only s (negsuc 9223372036854775807) (pos 9223372036854775807) v };
 }
 
 impl NeverNil for isize {
     ghost never_nil = { λ s v. whole_other s v };
+}
+
+impl<'de, R: ReadSlice<'de>> ContentOrd<'de, R> for isize {
+    ghost equal = { λ v w h. tied int_cmp int_cmp_total v w h };
 }
 
 impl<'de, R: ReadSlice<'de>> RoundTrip<'de, R> for u128 {
@@ -182,11 +259,17 @@ impl<'de, R: ReadSlice<'de>> RoundTrip<'de, R> for u128 {
 
     ghost same = { λ v w. v ≡ w };
 
+    ghost alike = { λ human v w h i. Some (unsigned128 (h i)) };
+
     ghost only = { λ s v fits. unsigned128_only s v fits };
 }
 
 impl NeverNil for u128 {
     ghost never_nil = { λ s v. unsigned128_other s v };
+}
+
+impl<'de, R: ReadSlice<'de>> ContentOrd<'de, R> for u128 {
+    ghost equal = { λ v w h. tied nat_cmp nat_cmp_total v w h };
 }
 
 impl<'de, R: ReadSlice<'de>> RoundTrip<'de, R> for i128 {
@@ -196,11 +279,17 @@ impl<'de, R: ReadSlice<'de>> RoundTrip<'de, R> for i128 {
 
     ghost same = { λ v w. v ≡ w };
 
+    ghost alike = { λ human v w h i. Some (signed128 (h i)) };
+
     ghost only = { λ s v fits. signed128_only s v fits };
 }
 
 impl NeverNil for i128 {
     ghost never_nil = { λ s v. signed128_other s v };
+}
+
+impl<'de, R: ReadSlice<'de>> ContentOrd<'de, R> for i128 {
+    ghost equal = { λ v w h. tied int_cmp int_cmp_total v w h };
 }
 
 impl<'de, R: ReadSlice<'de>> RoundTrip<'de, R> for F32Bits {
@@ -209,6 +298,8 @@ impl<'de, R: ReadSlice<'de>> RoundTrip<'de, R> for F32Bits {
     ghost round = { λ lent s v fits. float32_row s v.0 };
 
     ghost same = { λ v w. v.0 ≡ w.0 };
+
+    ghost alike = { λ human v w h. float32_alike v.0 w.0 h };
 
     ghost only = { λ s v fits. float32_only s (λ w. w.0) v.0 };
 }
@@ -223,6 +314,8 @@ impl<'de, R: ReadSlice<'de>> RoundTrip<'de, R> for F64Bits {
     ghost round = { λ lent s v fits. float64_row s v.0 };
 
     ghost same = { λ v w. v.0 ≡ w.0 };
+
+    ghost alike = { λ human v w h. float64_alike v.0 w.0 h };
 
     ghost only = { λ s v fits. float64_only s (λ w. w.0) v.0 };
 }

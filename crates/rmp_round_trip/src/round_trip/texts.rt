@@ -1,13 +1,19 @@
 //! Characters, texts, bytes and extensions.
 ghost use Rattle.std.proofs.Common.{refl};
-ghost use Rattle.std.specs.Prelude.{true, string_bytes};
+ghost use Rattle.std.specs.Cmp.{nat_cmp_total};
+ghost use Rattle.std.specs.Cmp.Lexicographic.{nat_list_cmp_total, slice_cmp};
+ghost use Rattle.std.specs.Ordering.{nat_cmp};
+ghost use Rattle.std.specs.Prelude.{Some, true, string_bytes};
+ghost use Rattle.rmp_encode.specs.Data.{char};
+ghost use Rattle.rmp_round_trip.specs.AlikeData.{bytes_alike, extension_alike, text_alike};
+ghost use Rattle.rmp_round_trip.specs.AlikeOrder.{tied};
 ghost use Rattle.rmp_wire.specs.Types.{bytes_of, buffer_bytes, tag_of, ext_bytes};
 ghost use Rattle.rmp_round_trip.specs.LeafRounds.{char_row, string_row, str_row, bytes_row, buffer_row};
 ghost use Rattle.rmp_round_trip.specs.LeafRounds.{ext_row, char_other, text_other, bytes_other, extension_other};
 ghost use Rattle.rmp_round_trip.specs.OnlyLeaves.{char_only, string_only, str_only, bytes_only, buffer_only, ext_only};
 ghost use Rattle.std.specs.Prelude.{◌≡◌};
 
-use crate::round_trip::{NeverNil, RoundTrip};
+use crate::round_trip::{ContentOrd, NeverNil, RoundTrip};
 use rmp_wire::{ByteBuf, Bytes, Ext, ReadSlice};
 
 impl<'de, R: ReadSlice<'de>> RoundTrip<'de, R> for char {
@@ -17,11 +23,17 @@ impl<'de, R: ReadSlice<'de>> RoundTrip<'de, R> for char {
 
     ghost same = { λ v w. v ≡ w };
 
+    ghost alike = { λ human v w h i. Some (char (h i)) };
+
     ghost only = { λ s v fits. char_only s v fits };
 }
 
 impl NeverNil for char {
     ghost never_nil = { λ s v. char_other s v };
+}
+
+impl<'de, R: ReadSlice<'de>> ContentOrd<'de, R> for char {
+    ghost equal = { λ v w h. tied nat_cmp nat_cmp_total v w h };
 }
 
 impl<'de, R: ReadSlice<'de>> RoundTrip<'de, R> for String {
@@ -31,11 +43,17 @@ impl<'de, R: ReadSlice<'de>> RoundTrip<'de, R> for String {
 
     ghost same = { λ v w. string_bytes v ≡ string_bytes w };
 
+    ghost alike = { λ human v w h. text_alike (string_bytes v) (string_bytes w) h };
+
     ghost only = { λ s v fits. string_only s (λ w. string_bytes w) (string_bytes v) };
 }
 
 impl NeverNil for String {
     ghost never_nil = { λ s v. text_other s (string_bytes v) };
+}
+
+impl<'de, R: ReadSlice<'de>> ContentOrd<'de, R> for String {
+    ghost equal = { λ v w h. tied (slice_cmp nat_cmp) nat_list_cmp_total (string_bytes v) (string_bytes w) h };
 }
 
 impl<'de, R: ReadSlice<'de>> RoundTrip<'de, R> for &'de str {
@@ -47,11 +65,17 @@ impl<'de, R: ReadSlice<'de>> RoundTrip<'de, R> for &'de str {
 
     ghost same = { λ v w. v.now ≡ w.now };
 
+    ghost alike = { λ human v w h. text_alike v.now w.now h };
+
     ghost only = { λ s v fits. str_only s (λ w. w.now) v.now R.lends };
 }
 
 impl NeverNil for &str {
     ghost never_nil = { λ s v. text_other s v.now };
+}
+
+impl<'de, R: ReadSlice<'de>> ContentOrd<'de, R> for &'de str {
+    ghost equal = { λ v w h. tied (slice_cmp nat_cmp) nat_list_cmp_total v.now w.now h };
 }
 
 impl<'de, R: ReadSlice<'de>> RoundTrip<'de, R> for Bytes<'de> {
@@ -62,6 +86,8 @@ impl<'de, R: ReadSlice<'de>> RoundTrip<'de, R> for Bytes<'de> {
     ghost round = { λ lent s v fits. bytes_row s (bytes_of v) _ (lent refl) };
 
     ghost same = { λ v w. bytes_of v ≡ bytes_of w };
+
+    ghost alike = { λ human v w h. bytes_alike (bytes_of v) (bytes_of w) h };
 
     ghost only = { λ s v fits. bytes_only s (λ w. bytes_of w) (bytes_of v) R.lends };
 }
@@ -77,6 +103,8 @@ impl<'de, R: ReadSlice<'de>> RoundTrip<'de, R> for ByteBuf {
 
     ghost same = { λ v w. buffer_bytes v ≡ buffer_bytes w };
 
+    ghost alike = { λ human v w h. bytes_alike (buffer_bytes v) (buffer_bytes w) h };
+
     ghost only = { λ s v fits. buffer_only s (λ w. buffer_bytes w) (buffer_bytes v) };
 }
 
@@ -90,6 +118,8 @@ impl<'de, R: ReadSlice<'de>> RoundTrip<'de, R> for Ext {
     ghost round = { λ lent s v fits. ext_row s v };
 
     ghost same = { λ v w. (tag_of v ≡ tag_of w) × (ext_bytes v ≡ ext_bytes w) };
+
+    ghost alike = { λ human v w h. extension_alike (tag_of v) (tag_of w) (ext_bytes v) (ext_bytes w) h };
 
     ghost only = { λ s v fits. ext_only s v };
 }

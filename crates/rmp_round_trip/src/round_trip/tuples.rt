@@ -1,10 +1,12 @@
 //! Tuples. Written by tools/tuples.py.
 ghost use Rattle.std.specs.Prelude.{◌∷◌, ◌||◌, [], true};
+ghost use Rattle.rmp_encode.specs.Trees.{tuple_of};
+ghost use Rattle.rmp_round_trip.specs.AlikeOrder.{then_tied};
 ghost use Rattle.rmp_round_trip.specs.OnlyRows.{item_only, last_only, lowers_then, row_both};
 ghost use Rattle.rmp_round_trip.specs.RoundTrip.{Only};
 ghost use Rattle.rmp_round_trip.specs.Rounds.{rows_none, rows_cons, parts_none, parts_cons, tuple_some, tuple_row, tuple_other, first_lent, second_lent};
 
-use crate::round_trip::{NeverNil, RoundTrip};
+use crate::round_trip::{ContentOrd, NeverNil, RoundTrip};
 use rmp_decode::Deserialize;
 use rmp_encode::Serialize;
 use rmp_wire::ReadSlice;
@@ -18,6 +20,8 @@ impl<'de, R: ReadSlice<'de>, A: RoundTrip<'de, R>> RoundTrip<'de, R> for (A,) {
 
     ghost same = { λ v w. A.same v.0 w.0 };
 
+    ghost alike = { λ human v w h i. tuple_of (A.alike human v.0 w.0 h i ∷ []) };
+
     ghost only = { λ s v fits. lowers_then s _ _ (λ m. (w : _) → ⟦<(A,) as Deserialize<'de, R>>⟧.reads s.human R.lends m w
         → A.same v.0 w.0) (tuple_row s _ _ (rows_cons s _ _ (λ m. Only (A.reads s.human R.lends) A.same m v.0) _ (A.only s v.0 fits) (rows_none s)))
         (λ m q w r. row_both _ _ _ m q r (last_only (A.reads s.human R.lends) A.same v.0 w.0)) };
@@ -25,6 +29,10 @@ impl<'de, R: ReadSlice<'de>, A: RoundTrip<'de, R>> RoundTrip<'de, R> for (A,) {
 
 impl<A: Serialize> NeverNil for (A,) {
     ghost never_nil = { λ s v. tuple_other s (A.data_of v.0 s.human ∷ []) };
+}
+
+impl<'de, R: ReadSlice<'de>, A: ContentOrd<'de, R>> ContentOrd<'de, R> for (A,) {
+    ghost equal = { λ v w h. (A.equal v.0 w.0 h) };
 }
 
 impl<'de, R: ReadSlice<'de>, A: RoundTrip<'de, R>, B: RoundTrip<'de, R>> RoundTrip<'de, R>
@@ -39,6 +47,8 @@ impl<'de, R: ReadSlice<'de>, A: RoundTrip<'de, R>, B: RoundTrip<'de, R>> RoundTr
 
     ghost same = { λ v w. A.same v.0 w.0 × B.same v.1 w.1 };
 
+    ghost alike = { λ human v w h i. tuple_of (A.alike human v.0 w.0 h.0 i ∷ B.alike human v.1 w.1 h.1 i ∷ []) };
+
     ghost only = { λ s v fits. lowers_then s _ _ (λ m. (w : _) → ⟦<(A, B) as Deserialize<'de, R>>⟧.reads s.human R.lends m w
         → A.same v.0 w.0 × B.same v.1 w.1) (tuple_row s _ _
         (rows_cons s _ _ (λ m. Only (A.reads s.human R.lends) A.same m v.0) _ (A.only s v.0 fits.0)
@@ -48,6 +58,11 @@ impl<'de, R: ReadSlice<'de>, A: RoundTrip<'de, R>, B: RoundTrip<'de, R>> RoundTr
 
 impl<A: Serialize, B: Serialize> NeverNil for (A, B) {
     ghost never_nil = { λ s v. tuple_other s (A.data_of v.0 s.human ∷ B.data_of v.1 s.human ∷ []) };
+}
+
+impl<'de, R: ReadSlice<'de>, A: ContentOrd<'de, R>, B: ContentOrd<'de, R>> ContentOrd<'de, R>
+    for (A, B) {
+    ghost equal = { λ v w h. (then_tied _ _ (A.equal v.0 w.0 h.0) (B.equal v.1 w.1 h.1)) };
 }
 
 impl<
@@ -71,6 +86,8 @@ impl<
 
     ghost same = { λ v w. A.same v.0 w.0 × B.same v.1 w.1 × D.same v.2 w.2 };
 
+    ghost alike = { λ human v w h i. tuple_of (A.alike human v.0 w.0 h.0 i ∷ B.alike human v.1 w.1 h.1 i ∷ D.alike human v.2 w.2 h.2 i ∷ []) };
+
     ghost only = { λ s v fits. lowers_then s _ _ (λ m. (w : _) → ⟦<(A, B, D) as Deserialize<'de, R>>⟧.reads s.human R.lends m w
         → A.same v.0 w.0 × B.same v.1 w.1 × D.same v.2 w.2)
         (tuple_row s _ _ (rows_cons s _ _ (λ m. Only (A.reads s.human R.lends) A.same m v.0) _ (A.only s v.0 fits.0)
@@ -82,6 +99,16 @@ impl<
 
 impl<A: Serialize, B: Serialize, D: Serialize> NeverNil for (A, B, D) {
     ghost never_nil = { λ s v. tuple_other s (A.data_of v.0 s.human ∷ B.data_of v.1 s.human ∷ D.data_of v.2 s.human ∷ []) };
+}
+
+impl<
+    'de,
+    R: ReadSlice<'de>,
+    A: ContentOrd<'de, R>,
+    B: ContentOrd<'de, R>,
+    D: ContentOrd<'de, R>,
+> ContentOrd<'de, R> for (A, B, D) {
+    ghost equal = { λ v w h. (then_tied _ _ (then_tied _ _ (A.equal v.0 w.0 h.0) (B.equal v.1 w.1 h.1)) (D.equal v.2 w.2 h.2)) };
 }
 
 impl<
@@ -110,6 +137,9 @@ impl<
 
     ghost same = { λ v w. A.same v.0 w.0 × B.same v.1 w.1 × D.same v.2 w.2 × E.same v.3 w.3 };
 
+    ghost alike = { λ human v w h i. tuple_of (A.alike human v.0 w.0 h.0 i ∷ B.alike human v.1 w.1 h.1 i ∷ D.alike human v.2 w.2 h.2 i
+        ∷ E.alike human v.3 w.3 h.3 i ∷ []) };
+
     ghost only = { λ s v fits. lowers_then s _ _ (λ m. (w : _) → ⟦<(A, B, D, E) as Deserialize<'de, R>>⟧.reads s.human R.lends m w
         → A.same v.0 w.0 × B.same v.1 w.1 × D.same v.2 w.2 × E.same v.3 w.3)
         (tuple_row s _ _ (rows_cons s _ _ (λ m. Only (A.reads s.human R.lends) A.same m v.0) _ (A.only s v.0 fits.0)
@@ -124,6 +154,18 @@ impl<
 
 impl<A: Serialize, B: Serialize, D: Serialize, E: Serialize> NeverNil for (A, B, D, E) {
     ghost never_nil = { λ s v. tuple_other s (A.data_of v.0 s.human ∷ B.data_of v.1 s.human ∷ D.data_of v.2 s.human ∷ E.data_of v.3 s.human ∷ []) };
+}
+
+impl<
+    'de,
+    R: ReadSlice<'de>,
+    A: ContentOrd<'de, R>,
+    B: ContentOrd<'de, R>,
+    D: ContentOrd<'de, R>,
+    E: ContentOrd<'de, R>,
+> ContentOrd<'de, R> for (A, B, D, E) {
+    ghost equal = { λ v w h. (then_tied _ _ (then_tied _ _ (then_tied _ _ (A.equal v.0 w.0 h.0) (B.equal v.1 w.1 h.1)) (D.equal v.2 w.2 h.2))
+        (E.equal v.3 w.3 h.3)) };
 }
 
 impl<
@@ -161,6 +203,9 @@ impl<
 
     ghost same = { λ v w. A.same v.0 w.0 × B.same v.1 w.1 × D.same v.2 w.2 × E.same v.3 w.3 × F.same v.4 w.4 };
 
+    ghost alike = { λ human v w h i. tuple_of (A.alike human v.0 w.0 h.0 i ∷ B.alike human v.1 w.1 h.1 i ∷ D.alike human v.2 w.2 h.2 i
+        ∷ E.alike human v.3 w.3 h.3 i ∷ F.alike human v.4 w.4 h.4 i ∷ []) };
+
     ghost only = { λ s v fits. lowers_then s _ _ (λ m. (w : _) → ⟦<(A, B, D, E, F) as Deserialize<'de, R>>⟧.reads s.human R.lends m w
         → A.same v.0 w.0 × B.same v.1 w.1 × D.same v.2 w.2 × E.same v.3 w.3 × F.same v.4 w.4)
         (tuple_row s _ _ (rows_cons s _ _ (λ m. Only (A.reads s.human R.lends) A.same m v.0) _ (A.only s v.0 fits.0)
@@ -179,6 +224,19 @@ impl<A: Serialize, B: Serialize, D: Serialize, E: Serialize, F: Serialize> Never
     for (A, B, D, E, F) {
     ghost never_nil = { λ s v. tuple_other s (A.data_of v.0 s.human ∷ B.data_of v.1 s.human ∷ D.data_of v.2 s.human ∷ E.data_of v.3 s.human
         ∷ F.data_of v.4 s.human ∷ []) };
+}
+
+impl<
+    'de,
+    R: ReadSlice<'de>,
+    A: ContentOrd<'de, R>,
+    B: ContentOrd<'de, R>,
+    D: ContentOrd<'de, R>,
+    E: ContentOrd<'de, R>,
+    F: ContentOrd<'de, R>,
+> ContentOrd<'de, R> for (A, B, D, E, F) {
+    ghost equal = { λ v w h. (then_tied _ _ (then_tied _ _ (then_tied _ _ (then_tied _ _ (A.equal v.0 w.0 h.0) (B.equal v.1 w.1 h.1)) (D.equal v.2 w.2 h.2))
+        (E.equal v.3 w.3 h.3)) (F.equal v.4 w.4 h.4)) };
 }
 
 impl<
@@ -224,6 +282,9 @@ impl<
 
     ghost same = { λ v w. A.same v.0 w.0 × B.same v.1 w.1 × D.same v.2 w.2 × E.same v.3 w.3 × F.same v.4 w.4 × G.same v.5 w.5 };
 
+    ghost alike = { λ human v w h i. tuple_of (A.alike human v.0 w.0 h.0 i ∷ B.alike human v.1 w.1 h.1 i ∷ D.alike human v.2 w.2 h.2 i
+        ∷ E.alike human v.3 w.3 h.3 i ∷ F.alike human v.4 w.4 h.4 i ∷ G.alike human v.5 w.5 h.5 i ∷ []) };
+
     ghost only = { λ s v fits. lowers_then s _ _ (λ m. (w : _) → ⟦<(A, B, D, E, F, G) as Deserialize<'de, R>>⟧.reads s.human R.lends m w
         → A.same v.0 w.0 × B.same v.1 w.1 × D.same v.2 w.2 × E.same v.3 w.3 × F.same v.4 w.4 × G.same v.5 w.5)
         (tuple_row s _ _ (rows_cons s _ _ (λ m. Only (A.reads s.human R.lends) A.same m v.0) _ (A.only s v.0 fits.0)
@@ -244,6 +305,21 @@ impl<A: Serialize, B: Serialize, D: Serialize, E: Serialize, F: Serialize, G: Se
     for (A, B, D, E, F, G) {
     ghost never_nil = { λ s v. tuple_other s (A.data_of v.0 s.human ∷ B.data_of v.1 s.human ∷ D.data_of v.2 s.human ∷ E.data_of v.3 s.human
         ∷ F.data_of v.4 s.human ∷ G.data_of v.5 s.human ∷ []) };
+}
+
+impl<
+    'de,
+    R: ReadSlice<'de>,
+    A: ContentOrd<'de, R>,
+    B: ContentOrd<'de, R>,
+    D: ContentOrd<'de, R>,
+    E: ContentOrd<'de, R>,
+    F: ContentOrd<'de, R>,
+    G: ContentOrd<'de, R>,
+> ContentOrd<'de, R> for (A, B, D, E, F, G) {
+    ghost equal = { λ v w h. (then_tied _ _ (then_tied _ _
+        (then_tied _ _ (then_tied _ _ (then_tied _ _ (A.equal v.0 w.0 h.0) (B.equal v.1 w.1 h.1)) (D.equal v.2 w.2 h.2)) (E.equal v.3 w.3 h.3))
+        (F.equal v.4 w.4 h.4)) (G.equal v.5 w.5 h.5)) };
 }
 
 impl<
@@ -300,6 +376,9 @@ impl<
 
     ghost same = { λ v w. A.same v.0 w.0 × B.same v.1 w.1 × D.same v.2 w.2 × E.same v.3 w.3 × F.same v.4 w.4 × G.same v.5 w.5 × H.same v.6 w.6 };
 
+    ghost alike = { λ human v w h i. tuple_of (A.alike human v.0 w.0 h.0 i ∷ B.alike human v.1 w.1 h.1 i ∷ D.alike human v.2 w.2 h.2 i
+        ∷ E.alike human v.3 w.3 h.3 i ∷ F.alike human v.4 w.4 h.4 i ∷ G.alike human v.5 w.5 h.5 i ∷ H.alike human v.6 w.6 h.6 i ∷ []) };
+
     ghost only = { λ s v fits. lowers_then s _ _ (λ m. (w : _) → ⟦<(A, B, D, E, F, G, H) as Deserialize<'de, R>>⟧.reads s.human R.lends m w
         → A.same v.0 w.0 × B.same v.1 w.1 × D.same v.2 w.2 × E.same v.3 w.3 × F.same v.4 w.4 × G.same v.5 w.5 × H.same v.6 w.6)
         (tuple_row s _ _ (rows_cons s _ _ (λ m. Only (A.reads s.human R.lends) A.same m v.0) _ (A.only s v.0 fits.0)
@@ -329,6 +408,22 @@ impl<
 > NeverNil for (A, B, D, E, F, G, H) {
     ghost never_nil = { λ s v. tuple_other s (A.data_of v.0 s.human ∷ B.data_of v.1 s.human ∷ D.data_of v.2 s.human ∷ E.data_of v.3 s.human
         ∷ F.data_of v.4 s.human ∷ G.data_of v.5 s.human ∷ H.data_of v.6 s.human ∷ []) };
+}
+
+impl<
+    'de,
+    R: ReadSlice<'de>,
+    A: ContentOrd<'de, R>,
+    B: ContentOrd<'de, R>,
+    D: ContentOrd<'de, R>,
+    E: ContentOrd<'de, R>,
+    F: ContentOrd<'de, R>,
+    G: ContentOrd<'de, R>,
+    H: ContentOrd<'de, R>,
+> ContentOrd<'de, R> for (A, B, D, E, F, G, H) {
+    ghost equal = { λ v w h. (then_tied _ _ (then_tied _ _
+        (then_tied _ _ (then_tied _ _ (then_tied _ _ (then_tied _ _ (A.equal v.0 w.0 h.0) (B.equal v.1 w.1 h.1)) (D.equal v.2 w.2 h.2))
+        (E.equal v.3 w.3 h.3)) (F.equal v.4 w.4 h.4)) (G.equal v.5 w.5 h.5)) (H.equal v.6 w.6 h.6)) };
 }
 
 impl<
@@ -396,6 +491,10 @@ impl<
     ghost same = { λ v w. A.same v.0 w.0 × B.same v.1 w.1 × D.same v.2 w.2 × E.same v.3 w.3 × F.same v.4 w.4 × G.same v.5 w.5 × H.same v.6 w.6
         × I.same v.7 w.7 };
 
+    ghost alike = { λ human v w h i. tuple_of (A.alike human v.0 w.0 h.0 i ∷ B.alike human v.1 w.1 h.1 i ∷ D.alike human v.2 w.2 h.2 i
+        ∷ E.alike human v.3 w.3 h.3 i ∷ F.alike human v.4 w.4 h.4 i ∷ G.alike human v.5 w.5 h.5 i ∷ H.alike human v.6 w.6 h.6 i
+        ∷ I.alike human v.7 w.7 h.7 i ∷ []) };
+
     ghost only = { λ s v fits. lowers_then s _ _ (λ m. (w : _) → ⟦<(A, B, D, E, F, G, H, I) as Deserialize<'de, R>>⟧.reads s.human R.lends m w
         → A.same v.0 w.0 × B.same v.1 w.1 × D.same v.2 w.2 × E.same v.3 w.3 × F.same v.4 w.4 × G.same v.5 w.5 × H.same v.6 w.6 × I.same v.7 w.7)
         (tuple_row s _ _ (rows_cons s _ _ (λ m. Only (A.reads s.human R.lends) A.same m v.0) _ (A.only s v.0 fits.0)
@@ -428,4 +527,21 @@ impl<
 > NeverNil for (A, B, D, E, F, G, H, I) {
     ghost never_nil = { λ s v. tuple_other s (A.data_of v.0 s.human ∷ B.data_of v.1 s.human ∷ D.data_of v.2 s.human ∷ E.data_of v.3 s.human
         ∷ F.data_of v.4 s.human ∷ G.data_of v.5 s.human ∷ H.data_of v.6 s.human ∷ I.data_of v.7 s.human ∷ []) };
+}
+
+impl<
+    'de,
+    R: ReadSlice<'de>,
+    A: ContentOrd<'de, R>,
+    B: ContentOrd<'de, R>,
+    D: ContentOrd<'de, R>,
+    E: ContentOrd<'de, R>,
+    F: ContentOrd<'de, R>,
+    G: ContentOrd<'de, R>,
+    H: ContentOrd<'de, R>,
+    I: ContentOrd<'de, R>,
+> ContentOrd<'de, R> for (A, B, D, E, F, G, H, I) {
+    ghost equal = { λ v w h. (then_tied _ _ (then_tied _ _
+        (then_tied _ _ (then_tied _ _ (then_tied _ _ (then_tied _ _ (then_tied _ _ (A.equal v.0 w.0 h.0) (B.equal v.1 w.1 h.1)) (D.equal v.2 w.2 h.2))
+        (E.equal v.3 w.3 h.3)) (F.equal v.4 w.4 h.4)) (G.equal v.5 w.5 h.5)) (H.equal v.6 w.6 h.6)) (I.equal v.7 w.7 h.7)) };
 }

@@ -13,7 +13,7 @@ ghost use Rattle.rmp_encode.specs.Refusals.{OfLength, RefusesLength};
 ghost use Rattle.rmp_encode.specs.Ser.{sink_of, settings_of};
 ghost use Rattle.rmp_encode.specs.Trees.{tree_of};
 ghost use Rattle.rmp_encode.specs.Writes.{AtItem, Keeps, NoneAtMarker, WritesTree};
-ghost use Rattle.rmp_serde.specs.RawRounds.{raw_ref_only, raw_ref_row, raw_other};
+ghost use Rattle.rmp_serde.specs.RawRounds.{raw_alike, raw_ref_only, raw_ref_row, raw_other};
 ghost use Rattle.rmp_serde.specs.Raws.{raw_ref_bytes, raw_data};
 
 use crate::raw::{ContentRef, OtherRef, RawRef};
@@ -191,6 +191,8 @@ impl<'de, R: ReadSlice<'de>> RoundTrip<'de, R> for RawRef<'de> {
     ghost round = { λ lent s v fits. raw_ref_row s (raw_ref_bytes v) R.lends (lent refl) };
 
     ghost same = { λ v w. raw_ref_bytes v ≡ raw_ref_bytes w };
+
+    ghost alike = { λ human v w h. raw_alike (raw_ref_bytes v) (raw_ref_bytes w) h };
 
     ghost only = { λ s v fits. raw_ref_only s (λ w. raw_ref_bytes w) (raw_ref_bytes v) R.lends };
 }

@@ -13,7 +13,7 @@ ghost use Rattle.rmp_encode.specs.Refusals.{OfLength, RefusesLength};
 ghost use Rattle.rmp_encode.specs.Ser.{sink_of, settings_of};
 ghost use Rattle.rmp_encode.specs.Trees.{tree_of};
 ghost use Rattle.rmp_encode.specs.Writes.{AtItem, Keeps, NoneAtMarker, WritesTree};
-ghost use Rattle.rmp_serde.specs.RawRounds.{raw_only, raw_row, raw_other};
+ghost use Rattle.rmp_serde.specs.RawRounds.{raw_alike, raw_only, raw_row, raw_other};
 ghost use Rattle.rmp_serde.specs.Raws.{raw_bytes, raw_data};
 
 use crate::raw::{Content, Other, Raw};
@@ -199,6 +199,8 @@ impl<'de, R: ReadSlice<'de>> RoundTrip<'de, R> for Raw {
     ghost round = { λ lent s v fits. raw_row s (raw_bytes v) };
 
     ghost same = { λ v w. raw_bytes v ≡ raw_bytes w };
+
+    ghost alike = { λ human v w h. raw_alike (raw_bytes v) (raw_bytes w) h };
 
     ghost only = { λ s v fits. raw_only s (λ w. raw_bytes w) (raw_bytes v) };
 }

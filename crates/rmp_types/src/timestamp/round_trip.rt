@@ -3,7 +3,7 @@ ghost use Rattle.std.proofs.Common.{refl};
 ghost use Rattle.std.specs.Prelude.{◌≡◌};
 ghost use Rattle.rmp_round_trip.specs.LeafRounds.{extension_other};
 ghost use Rattle.rmp_types.specs.Payloads.{time_payload};
-ghost use Rattle.rmp_types.specs.TimestampRounds.{time_inside, time_only, time_row};
+ghost use Rattle.rmp_types.specs.TimestampRounds.{time_alike, time_inside, time_only, time_row};
 ghost use Rattle.rmp_types.specs.Timestamps.{time_tag};
 
 use crate::timestamp::Timestamp;
@@ -17,6 +17,8 @@ impl<'de, R: ReadSlice<'de>> RoundTrip<'de, R> for Timestamp {
     ghost round = { λ lent s v fits. time_row s v.seconds v.nanoseconds fits.0 fits.1 };
 
     ghost same = { λ v w. (v.seconds ≡ w.seconds) × (v.nanoseconds ≡ w.nanoseconds) };
+
+    ghost alike = { λ human v w h. time_alike v.seconds w.seconds v.nanoseconds w.nanoseconds h };
 
     ghost only = { λ s v fits. time_only s v.seconds v.nanoseconds fits.0 fits.1 };
 }

@@ -1,7 +1,7 @@
 //! How the types of defaults.rt are written and read. Written by tools/derive.py.
 //!
 //! Sum of Level: 155669f7.
-//! Sum of Server: aeefca37.
+//! Sum of Server: d404a2fd.
 //! Sum of Proxy: 415e7a0c.
 //! Sum of Lists: adcdcdb8.
 //! Sum of Page: ef994216.
@@ -14,22 +14,24 @@ ghost use Rattle.rmp_decode.specs.Refusing.{RefusesBoxed, part_of};
 ghost use Rattle.rmp_decode.specs.Rows.{ReadsEach};
 ghost use Rattle.rmp_decode.specs.Variants.{OfVariant, Case, NoCase, Bare};
 ghost use Rattle.rmp_encode.specs.Data.{unit_variant};
-ghost use Rattle.rmp_encode.specs.Markers.{value_of};
 ghost use Rattle.rmp_encode.specs.Refusals.{OfParts, OfSink};
 ghost use Rattle.rmp_encode.specs.Sizes.{one_of};
-ghost use Rattle.rmp_encode.specs.Trees.{structure_of};
+ghost use Rattle.rmp_encode.specs.Trees.{structure_of, tuple_of};
 ghost use Rattle.rmp_ends.specs.BufferEnds.{buffer_inside};
 ghost use Rattle.rmp_ends.specs.EnumEnds.{enum_inside, no_content_inside};
 ghost use Rattle.rmp_ends.specs.FieldEnds.{fields_inside};
 ghost use Rattle.rmp_ends.specs.LeafEnds.{kind_inside, number_inside, char_inside, string_inside};
 ghost use Rattle.rmp_ends.specs.MapEnds.{map_inside};
 ghost use Rattle.rmp_ends.specs.RowEnds.{array_inside, box_inside, each_inside, option_inside, tuple_inside};
-ghost use Rattle.rmp_round_trip.specs.LeafRounds.{byte_row, unsigned_row_16, unsigned_row_32, unsigned_row_64, signed_row_8, signed_row_32, truth_row};
+ghost use Rattle.rmp_round_trip.specs.AlikeData.{array_alike, bytes_alike, float64_alike, mapping_alike, option_alike};
+ghost use Rattle.rmp_round_trip.specs.AlikeData.{sequence_alike, slice_alike, text_alike, variant_alike};
+ghost use Rattle.rmp_round_trip.specs.AlikeOrder.{tied};
+ghost use Rattle.rmp_round_trip.specs.LeafRounds.{byte_row, unsigned_row_16, unsigned_row_32, unsigned_row_64, signed_row_8, signed_row_32};
 ghost use Rattle.rmp_round_trip.specs.LeafRounds.{float64_row, char_row, string_row, buffer_row, byte_other, text_other};
 ghost use Rattle.rmp_round_trip.specs.MapRounds.{mapping_some, map_row, pairs_row, set_row};
 ghost use Rattle.rmp_round_trip.specs.OnlyFields.{AtPlace, AnyContent, field_only, fields_both, last_field, variant_both};
-ghost use Rattle.rmp_round_trip.specs.OnlyLeaves.{truth_only, byte_only, unsigned_only, signed_only, float64_only, char_only, string_only, buffer_only};
-ghost use Rattle.rmp_round_trip.specs.OnlyMaps.{map_only, set_only};
+ghost use Rattle.rmp_round_trip.specs.OnlyLeaves.{byte_only, unsigned_only, signed_only, float64_only, char_only, string_only, buffer_only};
+ghost use Rattle.rmp_round_trip.specs.OnlyMaps.{entries_only, set_only};
 ghost use Rattle.rmp_round_trip.specs.OnlyRows.{array_only, item_only, last_only, list_only, lowers_then, option_only, row_both};
 ghost use Rattle.rmp_round_trip.specs.RoundTrip.{Only};
 ghost use Rattle.rmp_round_trip.specs.Rounds.{each_some, each_row, rows_map, option_some, option_row, slice_some, slice_row};
@@ -37,10 +39,13 @@ ghost use Rattle.rmp_round_trip.specs.Rounds.{tuple_some, tuple_row, sequence_so
 ghost use Rattle.rmp_round_trip.specs.StructRounds.{tuple_all, structure_all, structure_row, structure_other, fields_none, fields_cons};
 ghost use Rattle.rmp_round_trip.specs.VariantRounds.{bare_row, bare_other};
 ghost use Rattle.rmp_wire.specs.Types.{buffer_bytes};
-ghost use Rattle.std.proofs.Common.{refl};
+ghost use Rattle.std.proofs.Common.{refl, rules};
 ghost use Rattle.std.proofs.lemmas.Cmp.{on_total, nat_list_cmp_total};
+ghost use Rattle.std.specs.Cmp.Lexicographic.{slice_cmp};
+ghost use Rattle.std.specs.Cmp.Rules.{comparing};
 ghost use Rattle.std.specs.Option.{is_none};
-ghost use Rattle.std.specs.Prelude.{◌≡◌, ◌∷◌, [], None, Some, codes, false, ⊤, IfOk, MatchOption, string_bytes, true, pos, negsuc};
+ghost use Rattle.std.specs.Ordering.{nat_cmp};
+ghost use Rattle.std.specs.Prelude.{◌≡◌, ◌∷◌, [], None, Some, codes, false, ⊤, IfOk, MatchOption, string_bytes, pos, negsuc};
 ghost use Rattle.test_derived.specs.declared.defaults.Level.TheVariants as the_level;
 ghost use Rattle.test_derived.specs.declared.defaults.TheConstants.{CORNER, NAME, PLAIN, TRIES};
 
@@ -49,7 +54,7 @@ use super::{
     Server, TRIES,
 };
 use rmp_decode::{Defaulted, Deserialize, Deserializer, ReadFields};
-use rmp_encode::{Elements, Serialize, Serializer};
+use rmp_encode::{Serialize, Serializer};
 use rmp_ends::EndsInside;
 use rmp_round_trip::{NeverNil, RoundTrip};
 use rmp_wire::config::SerializerConfig;
@@ -121,6 +126,13 @@ impl<'de, R: ReadSlice<'de>> RoundTrip<'de, R> for Level {
 
     ghost same = { λ v w. elim v [ the_level.Quiet ↦ (w ≡ the_level.Quiet) | the_level.Loud ↦ (w ≡ the_level.Loud) ] };
 
+    ghost alike = { λ human. elim [
+      | the_level.Quiet ↦ λ w h. variant_alike (λ x. ⟦<Level as Serialize>⟧.data_of x human) w the_level.Quiet h
+          (λ i. Some (unit_variant (codes "Quiet")))
+      | the_level.Loud ↦ λ w h. variant_alike (λ x. ⟦<Level as Serialize>⟧.data_of x human) w the_level.Loud h
+          (λ i. Some (unit_variant (codes "Loud")))
+    ] };
+
     ghost only = { λ s. let names = codes "Quiet" ∷ (codes "Loud" ∷ [])
         in elim [
           | the_level.Quiet ↦ λ fits. lowers_then s (Some (unit_variant (codes "Quiet"))) (OfVariant names (AtPlace 0 AnyContent)) (λ m. (w : _)
@@ -148,46 +160,42 @@ impl Serialize for Server {
         ∷ ((codes "tries", ⟦<i32 as Serialize>⟧.data_of v.tries human)
         ∷ ((codes "shift", ⟦<i8 as Serialize>⟧.data_of v.shift human)
         ∷ ((codes "note", ⟦<Option<String> as Serialize>⟧.data_of v.note human)
-        ∷ ((codes "open", ⟦<bool as Serialize>⟧.data_of v.open human)
         ∷ ((codes "sign", ⟦<char as Serialize>⟧.data_of v.sign human)
         ∷ ((codes "corner", ⟦<(u16, u16) as Serialize>⟧.data_of v.corner human)
-        ∷ ((codes "level", ⟦<Level as Serialize>⟧.data_of v.level human) ∷ []))))))))) };
+        ∷ ((codes "level", ⟦<Level as Serialize>⟧.data_of v.level human) ∷ [])))))))) };
 
     ghost is_value = { λ v. ⟦<String as Serialize>⟧.is_value v.host × ⟦<u16 as Serialize>⟧.is_value v.port × ⟦<i32 as Serialize>⟧.is_value v.tries
-        × ⟦<i8 as Serialize>⟧.is_value v.shift × ⟦<Option<String> as Serialize>⟧.is_value v.note × ⟦<bool as Serialize>⟧.is_value v.open
-        × ⟦<char as Serialize>⟧.is_value v.sign × ⟦<(u16, u16) as Serialize>⟧.is_value v.corner × ⟦<Level as Serialize>⟧.is_value v.level };
+        × ⟦<i8 as Serialize>⟧.is_value v.shift × ⟦<Option<String> as Serialize>⟧.is_value v.note × ⟦<char as Serialize>⟧.is_value v.sign
+        × ⟦<(u16, u16) as Serialize>⟧.is_value v.corner × ⟦<Level as Serialize>⟧.is_value v.level };
 
     ghost takes_memory = { λ s. one_of (⟦<String as Serialize>⟧.takes_memory s
         ∷ (⟦<u16 as Serialize>⟧.takes_memory s ∷ (⟦<i32 as Serialize>⟧.takes_memory s
         ∷ (⟦<i8 as Serialize>⟧.takes_memory s ∷ (⟦<Option<String> as Serialize>⟧.takes_memory s
-        ∷ (⟦<bool as Serialize>⟧.takes_memory s ∷ (⟦<char as Serialize>⟧.takes_memory s
-        ∷ (⟦<(u16, u16) as Serialize>⟧.takes_memory s ∷ (⟦<Level as Serialize>⟧.takes_memory s ∷ []))))))))) };
+        ∷ (⟦<char as Serialize>⟧.takes_memory s ∷ (⟦<(u16, u16) as Serialize>⟧.takes_memory s ∷ (⟦<Level as Serialize>⟧.takes_memory s ∷ [])))))))) };
 
     ghost refuses = { λ v. OfParts ⊥ (⟦<String as Serialize>⟧.refuses v.host
         ∷ (⟦<u16 as Serialize>⟧.refuses v.port ∷ (⟦<i32 as Serialize>⟧.refuses v.tries
         ∷ (⟦<i8 as Serialize>⟧.refuses v.shift ∷ (⟦<Option<String> as Serialize>⟧.refuses v.note
-        ∷ (⟦<bool as Serialize>⟧.refuses v.open ∷ (⟦<char as Serialize>⟧.refuses v.sign
-        ∷ (⟦<(u16, u16) as Serialize>⟧.refuses v.corner ∷ (⟦<Level as Serialize>⟧.refuses v.level ∷ []))))))))) };
+        ∷ (⟦<char as Serialize>⟧.refuses v.sign ∷ (⟦<(u16, u16) as Serialize>⟧.refuses v.corner ∷ (⟦<Level as Serialize>⟧.refuses v.level ∷ [])))))))) };
 
     fn serialize<W: Sink, C: SerializerConfig>(
         &self,
         se: &mut Serializer<W, C>,
     ) -> Result<(), rmp_encode::Error> {
-        let parts = NineParts {
+        let parts = rmp_encode::Eight {
             first: &self.host,
             second: &self.port,
             third: &self.tries,
             fourth: &self.shift,
             fifth: &self.note,
-            sixth: &self.open,
-            seventh: &self.sign,
-            eighth: &self.corner,
-            ninth: &self.level,
+            sixth: &self.sign,
+            seventh: &self.corner,
+            eighth: &self.level,
         };
         se.serialize_fields(
             "Server",
             &[
-                "host", "port", "tries", "shift", "note", "open", "sign", "corner", "level",
+                "host", "port", "tries", "shift", "note", "sign", "corner", "level",
             ],
             &parts,
         )
@@ -201,38 +209,35 @@ impl Serialize for Server {
 
 impl<'de, R: ReadSlice<'de>> Deserialize<'de, R> for Server {
     ghost reads = { λ human lends m v. OfFields (codes "host"
-        ∷ (codes "port" ∷ (codes "tries" ∷ (codes "shift" ∷ (codes "note" ∷ (codes "open" ∷ (codes "sign" ∷ (codes "corner" ∷ (codes "level" ∷ [])))))))))
+        ∷ (codes "port" ∷ (codes "tries" ∷ (codes "shift" ∷ (codes "note" ∷ (codes "sign" ∷ (codes "corner" ∷ (codes "level" ∷ []))))))))
         (Field (λ j. ⟦<String as Deserialize<'de, R>>⟧.reads human lends j v.host) (Absent ⟦<String as Deserialize<'de, R>>⟧.absent v.host)
         (Field (λ j. ⟦<u16 as Deserialize<'de, R>>⟧.reads human lends j v.port) (v.port ≡ 8080)
         (Field (λ j. ⟦<i32 as Deserialize<'de, R>>⟧.reads human lends j v.tries) (v.tries ≡ TRIES)
         (Field (λ j. ⟦<i8 as Deserialize<'de, R>>⟧.reads human lends j v.shift) (v.shift ≡ pos 0)
         (Field (λ j. ⟦<Option<String> as Deserialize<'de, R>>⟧.reads human lends j v.note) (Absent ⟦<Option<String> as Deserialize<'de, R>>⟧.absent v.note)
-        (Field (λ j. ⟦<bool as Deserialize<'de, R>>⟧.reads human lends j v.open) (v.open ≡ true)
         (Field (λ j. ⟦<char as Deserialize<'de, R>>⟧.reads human lends j v.sign) (v.sign ≡ 47)
         (Field (λ j. ⟦<(u16, u16) as Deserialize<'de, R>>⟧.reads human lends j v.corner) (v.corner ≡ CORNER)
-        (Field (λ j. ⟦<Level as Deserialize<'de, R>>⟧.reads human lends j v.level) (v.level ≡ PLAIN) NoField))))))))) m };
+        (Field (λ j. ⟦<Level as Deserialize<'de, R>>⟧.reads human lends j v.level) (v.level ≡ PLAIN) NoField)))))))) m };
 
     ghost absent = { None };
 
     ghost refuses = { RefusesFields (codes "host" ∷ (codes "port"
-        ∷ (codes "tries" ∷ (codes "shift" ∷ (codes "note" ∷ (codes "open" ∷ (codes "sign" ∷ (codes "corner" ∷ (codes "level" ∷ [])))))))))
+        ∷ (codes "tries" ∷ (codes "shift" ∷ (codes "note" ∷ (codes "sign" ∷ (codes "corner" ∷ (codes "level" ∷ []))))))))
         (is_none ⟦<String as Deserialize<'de, R>>⟧.absent ∷
         (is_none ⟦<Defaulted<u16> as Deserialize<'de, R>>⟧.absent
         ∷ (is_none ⟦<Defaulted<i32> as Deserialize<'de, R>>⟧.absent
         ∷ (is_none ⟦<Defaulted<i8> as Deserialize<'de, R>>⟧.absent
         ∷ (is_none ⟦<Option<String> as Deserialize<'de, R>>⟧.absent
-        ∷ (is_none ⟦<Defaulted<bool> as Deserialize<'de, R>>⟧.absent
         ∷ (is_none ⟦<Defaulted<char> as Deserialize<'de, R>>⟧.absent
-        ∷ (is_none ⟦<Defaulted<(u16, u16)> as Deserialize<'de, R>>⟧.absent ∷ (is_none ⟦<Defaulted<Level> as Deserialize<'de, R>>⟧.absent ∷ [])))))))))
+        ∷ (is_none ⟦<Defaulted<(u16, u16)> as Deserialize<'de, R>>⟧.absent ∷ (is_none ⟦<Defaulted<Level> as Deserialize<'de, R>>⟧.absent ∷ []))))))))
         (part_of ⟦<String as Deserialize<'de, R>>⟧.reads ⟦<String as Deserialize<'de, R>>⟧.refuses
         ∷ (part_of ⟦<Defaulted<u16> as Deserialize<'de, R>>⟧.reads ⟦<Defaulted<u16> as Deserialize<'de, R>>⟧.refuses
         ∷ (part_of ⟦<Defaulted<i32> as Deserialize<'de, R>>⟧.reads ⟦<Defaulted<i32> as Deserialize<'de, R>>⟧.refuses
         ∷ (part_of ⟦<Defaulted<i8> as Deserialize<'de, R>>⟧.reads ⟦<Defaulted<i8> as Deserialize<'de, R>>⟧.refuses
         ∷ (part_of ⟦<Option<String> as Deserialize<'de, R>>⟧.reads ⟦<Option<String> as Deserialize<'de, R>>⟧.refuses
-        ∷ (part_of ⟦<Defaulted<bool> as Deserialize<'de, R>>⟧.reads ⟦<Defaulted<bool> as Deserialize<'de, R>>⟧.refuses
         ∷ (part_of ⟦<Defaulted<char> as Deserialize<'de, R>>⟧.reads ⟦<Defaulted<char> as Deserialize<'de, R>>⟧.refuses
         ∷ (part_of ⟦<Defaulted<(u16, u16)> as Deserialize<'de, R>>⟧.reads ⟦<Defaulted<(u16, u16)> as Deserialize<'de, R>>⟧.refuses
-        ∷ (part_of ⟦<Defaulted<Level> as Deserialize<'de, R>>⟧.reads ⟦<Defaulted<Level> as Deserialize<'de, R>>⟧.refuses ∷ []))))))))) };
+        ∷ (part_of ⟦<Defaulted<Level> as Deserialize<'de, R>>⟧.reads ⟦<Defaulted<Level> as Deserialize<'de, R>>⟧.refuses ∷ [])))))))) };
 
     fn deserialize<C: SerializerConfig>(
         de: &mut Deserializer<R, C>,
@@ -245,26 +250,25 @@ impl<'de, R: ReadSlice<'de>> Deserialize<'de, R> for Server {
                 Defaulted<i8>,
                 (
                     Option<String>,
-                    Defaulted<bool>,
                     Defaulted<char>,
                     Defaulted<(u16, u16)>,
-                    (Defaulted<Level>, ()),
+                    Defaulted<Level>,
+                    (),
                 ),
             ),
             rmp_decode::Error,
-        > = rmp_decode::read_fields_9(
+        > = rmp_decode::read_fields_8(
             de,
             &[
-                "host", "port", "tries", "shift", "note", "open", "sign", "corner", "level",
+                "host", "port", "tries", "shift", "note", "sign", "corner", "level",
             ],
         );
         match read {
             Ok(parts) => {
-                let (host, port, tries, shift, (note, open, sign, corner, (level, ()))) = parts;
+                let (host, port, tries, shift, (note, sign, corner, level, ())) = parts;
                 let port = port.value.unwrap_or(8080);
                 let tries = tries.value.unwrap_or(TRIES);
                 let shift = shift.value.unwrap_or(0);
-                let open = open.value.unwrap_or(true);
                 let sign = sign.value.unwrap_or('/');
                 let corner = corner.value.unwrap_or(CORNER);
                 let level = level.value.unwrap_or(PLAIN);
@@ -274,7 +278,6 @@ impl<'de, R: ReadSlice<'de>> Deserialize<'de, R> for Server {
                     tries,
                     shift,
                     note,
-                    open,
                     sign,
                     corner,
                     level,
@@ -298,10 +301,9 @@ impl<'de, R: ReadSlice<'de>> RoundTrip<'de, R> for Server {
         ∷ ((codes "tries", ⟦<i32 as Serialize>⟧.data_of v.tries human)
         ∷ ((codes "shift", ⟦<i8 as Serialize>⟧.data_of v.shift human)
         ∷ ((codes "note", ⟦<Option<String> as Serialize>⟧.data_of v.note human)
-        ∷ ((codes "open", ⟦<bool as Serialize>⟧.data_of v.open human)
         ∷ ((codes "sign", ⟦<char as Serialize>⟧.data_of v.sign human)
         ∷ ((codes "corner", ⟦<(u16, u16) as Serialize>⟧.data_of v.corner human)
-        ∷ ((codes "level", ⟦<Level as Serialize>⟧.data_of v.level human) ∷ []))))))))) (
+        ∷ ((codes "level", ⟦<Level as Serialize>⟧.data_of v.level human) ∷ [])))))))) (
           refl,
           (
             refl,
@@ -314,12 +316,8 @@ impl<'de, R: ReadSlice<'de>> RoundTrip<'de, R> for Server {
                   (
                     refl,
                     (
-                      refl,
-                      (
-                        (tuple_all (⟦<u16 as Serialize>⟧.data_of v.corner.0 human ∷ (⟦<u16 as Serialize>⟧.data_of v.corner.1 human ∷ []))
-                            (refl, (refl, tt))),
-                        ((level_rounds.has_data-law R.row R.ReadSlice.own (given 0) R.Source (given 0) human v.level), tt),
-                      ),
+                      (tuple_all (⟦<u16 as Serialize>⟧.data_of v.corner.0 human ∷ (⟦<u16 as Serialize>⟧.data_of v.corner.1 human ∷ [])) (refl, (refl, tt))),
+                      ((level_rounds.has_data-law R.row R.ReadSlice.own (given 0) R.Source (given 0) human v.level), tt),
                     ),
                   ),
                 ),
@@ -329,8 +327,8 @@ impl<'de, R: ReadSlice<'de>> RoundTrip<'de, R> for Server {
         ) };
 
     ghost round = { λ lent s v fits. structure_row s (codes "host"
-        ∷ (codes "port" ∷ (codes "tries" ∷ (codes "shift" ∷ (codes "note" ∷ (codes "open" ∷ (codes "sign" ∷ (codes "corner" ∷ (codes "level" ∷ []))))))))) _
-        _ refl (fields_cons s (codes "host") _ _ _ (λ j. ⟦<String as Deserialize<'de, R>>⟧.reads s.human R.lends j v.host)
+        ∷ (codes "port" ∷ (codes "tries" ∷ (codes "shift" ∷ (codes "note" ∷ (codes "sign" ∷ (codes "corner" ∷ (codes "level" ∷ [])))))))) _ _ refl
+        (fields_cons s (codes "host") _ _ _ (λ j. ⟦<String as Deserialize<'de, R>>⟧.reads s.human R.lends j v.host)
         (Absent ⟦<String as Deserialize<'de, R>>⟧.absent v.host) _ (string_row s (string_bytes v.host))
         (fields_cons s (codes "port") _ _ _ (λ j. ⟦<u16 as Deserialize<'de, R>>⟧.reads s.human R.lends j v.port) (v.port ≡ 8080) _
         (unsigned_row_16 s v.port fits.1) (fields_cons s (codes "tries") _ _ _ (λ j. ⟦<i32 as Deserialize<'de, R>>⟧.reads s.human R.lends j v.tries)
@@ -340,29 +338,39 @@ impl<'de, R: ReadSlice<'de>> RoundTrip<'de, R> for Server {
         (Absent ⟦<Option<String> as Deserialize<'de, R>>⟧.absent v.note) _
         (option_row s (λ x. ⟦<String as Serialize>⟧.data_of x s.human) ⟦<String as Serialize>⟧.is_value
         (⟦<String as Deserialize<'de, R>>⟧.reads s.human R.lends) (λ x4. text_other s (string_bytes x4)) (λ x3 h3. (string_row s (string_bytes x3))) v.note
-        fits.4) (fields_cons s (codes "open") _ _ _ (λ j. ⟦<bool as Deserialize<'de, R>>⟧.reads s.human R.lends j v.open) (v.open ≡ true) _
-        (truth_row s v.open) (fields_cons s (codes "sign") _ _ _ (λ j. ⟦<char as Deserialize<'de, R>>⟧.reads s.human R.lends j v.sign) (v.sign ≡ 47) _
-        (char_row s v.sign fits.6) (fields_cons s (codes "corner") _ _ _ (λ j. ⟦<(u16, u16) as Deserialize<'de, R>>⟧.reads s.human R.lends j v.corner)
+        fits.4) (fields_cons s (codes "sign") _ _ _ (λ j. ⟦<char as Deserialize<'de, R>>⟧.reads s.human R.lends j v.sign) (v.sign ≡ 47) _
+        (char_row s v.sign fits.5) (fields_cons s (codes "corner") _ _ _ (λ j. ⟦<(u16, u16) as Deserialize<'de, R>>⟧.reads s.human R.lends j v.corner)
         (v.corner ≡ CORNER) _ (tuple_row s _ _ (rows_cons s _ _ (λ j. ⟦<u16 as Deserialize<'de, R>>⟧.reads s.human R.lends j v.corner.0) _
-        (unsigned_row_16 s v.corner.0 fits.7.0) (rows_cons s _ _ (λ j. ⟦<u16 as Deserialize<'de, R>>⟧.reads s.human R.lends j v.corner.1) _
-        (unsigned_row_16 s v.corner.1 fits.7.1) (rows_none s))))
+        (unsigned_row_16 s v.corner.0 fits.6.0) (rows_cons s _ _ (λ j. ⟦<u16 as Deserialize<'de, R>>⟧.reads s.human R.lends j v.corner.1) _
+        (unsigned_row_16 s v.corner.1 fits.6.1) (rows_none s))))
         (fields_cons s (codes "level") _ _ _ (λ j. ⟦<Level as Deserialize<'de, R>>⟧.reads s.human R.lends j v.level) (v.level ≡ PLAIN) _
-        (level_rounds.round-law R.row R.ReadSlice.own (given 0) R.Source (given 0) (λ e. cc) s v.level fits.8) (fields_none s)))))))))) };
+        (level_rounds.round-law R.row R.ReadSlice.own (given 0) R.Source (given 0) (λ e. cc) s v.level fits.7) (fields_none s))))))))) };
 
     ghost same = { λ v w. ⟦<String as RoundTrip<'de, R>>⟧.same v.host w.host × ⟦<u16 as RoundTrip<'de, R>>⟧.same v.port w.port
         × ⟦<i32 as RoundTrip<'de, R>>⟧.same v.tries w.tries × ⟦<i8 as RoundTrip<'de, R>>⟧.same v.shift w.shift
-        × ⟦<Option<String> as RoundTrip<'de, R>>⟧.same v.note w.note × ⟦<bool as RoundTrip<'de, R>>⟧.same v.open w.open
-        × ⟦<char as RoundTrip<'de, R>>⟧.same v.sign w.sign × ⟦<(u16, u16) as RoundTrip<'de, R>>⟧.same v.corner w.corner
-        × ⟦<Level as RoundTrip<'de, R>>⟧.same v.level w.level };
+        × ⟦<Option<String> as RoundTrip<'de, R>>⟧.same v.note w.note × ⟦<char as RoundTrip<'de, R>>⟧.same v.sign w.sign
+        × ⟦<(u16, u16) as RoundTrip<'de, R>>⟧.same v.corner w.corner × ⟦<Level as RoundTrip<'de, R>>⟧.same v.level w.level };
+
+    ghost alike = { λ human v w h i. structure_of ((codes "host", (text_alike (string_bytes v.host) (string_bytes w.host) h.0 i))
+        ∷ ((codes "port", (⟦<u16 as Serialize>⟧.data_of (h.1 i) human))
+        ∷ ((codes "tries", (⟦<i32 as Serialize>⟧.data_of (h.2 i) human))
+        ∷ ((codes "shift", (⟦<i8 as Serialize>⟧.data_of (h.3 i) human))
+        ∷ ((
+          codes "note",
+          (option_alike ⟦<String as RoundTrip<'de, R>>⟧.same (λ x. ⟦<String as Serialize>⟧.data_of x human)
+              (λ x3 yx3 h3 i. (text_alike (string_bytes x3) (string_bytes yx3) h3 i)) v.note w.note h.4 i),
+        )
+        ∷ ((codes "sign", (⟦<char as Serialize>⟧.data_of (h.5 i) human))
+        ∷ ((codes "corner", (tuple_of ((⟦<u16 as Serialize>⟧.data_of (h.6.0 i) human) ∷ ((⟦<u16 as Serialize>⟧.data_of (h.6.1 i) human) ∷ []))))
+        ∷ ((codes "level", (level_rounds.alike-law R.row R.ReadSlice.own (given 0) R.Source (given 0) human v.level w.level h.7 i)) ∷ [])))))))) };
 
     ghost only = { λ s v fits. lowers_then s _ _ (λ m. (w : _) → (⟦<Server as Deserialize<'de, R>>⟧.reads s.human R.lends) m w
         → ⟦<String as RoundTrip<'de, R>>⟧.same v.host w.host × ⟦<u16 as RoundTrip<'de, R>>⟧.same v.port w.port
         × ⟦<i32 as RoundTrip<'de, R>>⟧.same v.tries w.tries × ⟦<i8 as RoundTrip<'de, R>>⟧.same v.shift w.shift
-        × ⟦<Option<String> as RoundTrip<'de, R>>⟧.same v.note w.note × ⟦<bool as RoundTrip<'de, R>>⟧.same v.open w.open
-        × ⟦<char as RoundTrip<'de, R>>⟧.same v.sign w.sign × ⟦<(u16, u16) as RoundTrip<'de, R>>⟧.same v.corner w.corner
-        × ⟦<Level as RoundTrip<'de, R>>⟧.same v.level w.level)
+        × ⟦<Option<String> as RoundTrip<'de, R>>⟧.same v.note w.note × ⟦<char as RoundTrip<'de, R>>⟧.same v.sign w.sign
+        × ⟦<(u16, u16) as RoundTrip<'de, R>>⟧.same v.corner w.corner × ⟦<Level as RoundTrip<'de, R>>⟧.same v.level w.level)
         (structure_row s (codes "host" ∷ (codes "port" ∷ (codes "tries"
-        ∷ (codes "shift" ∷ (codes "note" ∷ (codes "open" ∷ (codes "sign" ∷ (codes "corner" ∷ (codes "level" ∷ []))))))))) _ _ refl
+        ∷ (codes "shift" ∷ (codes "note" ∷ (codes "sign" ∷ (codes "corner" ∷ (codes "level" ∷ [])))))))) _ _ refl
         (fields_cons s (codes "host") _ _ _ (λ j. Only (⟦<String as Deserialize<'de, R>>⟧.reads s.human R.lends) ⟦<String as RoundTrip<'de, R>>⟧.same j
         v.host) ⊥ _ (string_only s (λ w. string_bytes w) (string_bytes v.host))
         (fields_cons s (codes "port") _ _ _ (λ j. Only (⟦<u16 as Deserialize<'de, R>>⟧.reads s.human R.lends) ⟦<u16 as RoundTrip<'de, R>>⟧.same j v.port) ⊥
@@ -376,11 +384,9 @@ impl<'de, R: ReadSlice<'de>> RoundTrip<'de, R> for Server {
         (option_row s (λ x. ⟦<String as Serialize>⟧.data_of x s.human) ⟦<String as Serialize>⟧.is_value
         (Only (⟦<String as Deserialize<'de, R>>⟧.reads s.human R.lends) ⟦<String as RoundTrip<'de, R>>⟧.same) (λ x2. text_other s (string_bytes x2))
         (λ x1 h1. (string_only s (λ w. string_bytes w) (string_bytes x1))) v.note fits.4))
-        (fields_cons s (codes "open") _ _ _ (λ j. Only (⟦<bool as Deserialize<'de, R>>⟧.reads s.human R.lends) ⟦<bool as RoundTrip<'de, R>>⟧.same j v.open)
-        ⊥ _ (truth_only s v.open) (fields_cons s (codes "sign") _ _ _
-        (λ j. Only (⟦<char as Deserialize<'de, R>>⟧.reads s.human R.lends) ⟦<char as RoundTrip<'de, R>>⟧.same j v.sign) ⊥ _ (char_only s v.sign fits.6)
-        (fields_cons s (codes "corner") _ _ _ (λ j. Only (⟦<(u16, u16) as Deserialize<'de, R>>⟧.reads s.human R.lends)
-        ⟦<(u16, u16) as RoundTrip<'de, R>>⟧.same j v.corner) ⊥ _
+        (fields_cons s (codes "sign") _ _ _ (λ j. Only (⟦<char as Deserialize<'de, R>>⟧.reads s.human R.lends) ⟦<char as RoundTrip<'de, R>>⟧.same j v.sign)
+        ⊥ _ (char_only s v.sign fits.5) (fields_cons s (codes "corner") _ _ _
+        (λ j. Only (⟦<(u16, u16) as Deserialize<'de, R>>⟧.reads s.human R.lends) ⟦<(u16, u16) as RoundTrip<'de, R>>⟧.same j v.corner) ⊥ _
         (lowers_then s _ _ (λ j. Only (⟦<(u16, u16) as Deserialize<'de, R>>⟧.reads s.human R.lends) ⟦<(u16, u16) as RoundTrip<'de, R>>⟧.same j v.corner)
         (tuple_row s _ _ (rows_cons s _ _ (λ j. Only (⟦<u16 as Deserialize<'de, R>>⟧.reads s.human R.lends) ⟦<u16 as RoundTrip<'de, R>>⟧.same j v.corner.0)
         _ (unsigned_only s 65535 v.corner.0) (rows_cons s _ _
@@ -389,19 +395,18 @@ impl<'de, R: ReadSlice<'de>> RoundTrip<'de, R> for Server {
         (λ m q w r. row_both _ _ _ m q r (item_only (⟦<u16 as Deserialize<'de, R>>⟧.reads s.human R.lends) ⟦<u16 as RoundTrip<'de, R>>⟧.same v.corner.0 w.0
         _ _ _ (last_only (⟦<u16 as Deserialize<'de, R>>⟧.reads s.human R.lends) ⟦<u16 as RoundTrip<'de, R>>⟧.same v.corner.1 w.1))))
         (fields_cons s (codes "level") _ _ _ (λ j. Only (⟦<Level as Deserialize<'de, R>>⟧.reads s.human R.lends) ⟦<Level as RoundTrip<'de, R>>⟧.same j
-        v.level) ⊥ _ (level_rounds.only-law R.row R.ReadSlice.own (given 0) R.Source (given 0) s v.level fits.8) (fields_none s)))))))))))
+        v.level) ⊥ _ (level_rounds.only-law R.row R.ReadSlice.own (given 0) R.Source (given 0) s v.level fits.7) (fields_none s))))))))))
         (λ m q w r. fields_both (codes "host" ∷ (codes "port"
-        ∷ (codes "tries" ∷ (codes "shift" ∷ (codes "note" ∷ (codes "open" ∷ (codes "sign" ∷ (codes "corner" ∷ (codes "level" ∷ []))))))))) _ _ _ m q r
+        ∷ (codes "tries" ∷ (codes "shift" ∷ (codes "note" ∷ (codes "sign" ∷ (codes "corner" ∷ (codes "level" ∷ [])))))))) _ _ _ m q r
         (λ ks i j. let x = field_only (⟦<String as Deserialize<'de, R>>⟧.reads s.human R.lends) ⟦<String as RoundTrip<'de, R>>⟧.same v.host w.host _ _ _ _
         (field_only (⟦<u16 as Deserialize<'de, R>>⟧.reads s.human R.lends) ⟦<u16 as RoundTrip<'de, R>>⟧.same v.port w.port _ _ _ _
         (field_only (⟦<i32 as Deserialize<'de, R>>⟧.reads s.human R.lends) ⟦<i32 as RoundTrip<'de, R>>⟧.same v.tries w.tries _ _ _ _
         (field_only (⟦<i8 as Deserialize<'de, R>>⟧.reads s.human R.lends) ⟦<i8 as RoundTrip<'de, R>>⟧.same v.shift w.shift _ _ _ _
         (field_only (⟦<Option<String> as Deserialize<'de, R>>⟧.reads s.human R.lends) ⟦<Option<String> as RoundTrip<'de, R>>⟧.same v.note w.note _ _ _ _
-        (field_only (⟦<bool as Deserialize<'de, R>>⟧.reads s.human R.lends) ⟦<bool as RoundTrip<'de, R>>⟧.same v.open w.open _ _ _ _
         (field_only (⟦<char as Deserialize<'de, R>>⟧.reads s.human R.lends) ⟦<char as RoundTrip<'de, R>>⟧.same v.sign w.sign _ _ _ _
         (field_only (⟦<(u16, u16) as Deserialize<'de, R>>⟧.reads s.human R.lends) ⟦<(u16, u16) as RoundTrip<'de, R>>⟧.same v.corner w.corner _ _ _ _
-        (last_field (⟦<Level as Deserialize<'de, R>>⟧.reads s.human R.lends) ⟦<Level as RoundTrip<'de, R>>⟧.same v.level w.level _)))))))) ks i j
-        in (x.0, x.1.0, x.1.1.0, x.1.1.1.0, x.1.1.1.1.0, x.1.1.1.1.1.0, x.1.1.1.1.1.1.0, x.1.1.1.1.1.1.1.0, x.1.1.1.1.1.1.1.1))) };
+        (last_field (⟦<Level as Deserialize<'de, R>>⟧.reads s.human R.lends) ⟦<Level as RoundTrip<'de, R>>⟧.same v.level w.level _))))))) ks i j
+        in (x.0, x.1.0, x.1.1.0, x.1.1.1.0, x.1.1.1.1.0, x.1.1.1.1.1.0, x.1.1.1.1.1.1.0, x.1.1.1.1.1.1.1))) };
 }
 
 impl NeverNil for Server {
@@ -423,14 +428,11 @@ impl<'de, R: ReadSlice<'de>> EndsInside<'de, R> for Server {
             (
               (option_inside ⟦<String as Deserialize<'de, R>>⟧.refuses string_inside),
               (
-                kind_inside,
+                char_inside,
                 (
-                  char_inside,
-                  (
-                    (tuple_inside (part_of ⟦<u16 as Deserialize<'de, R>>⟧.reads ⟦<u16 as Deserialize<'de, R>>⟧.refuses
-                        ∷ (part_of ⟦<u16 as Deserialize<'de, R>>⟧.reads ⟦<u16 as Deserialize<'de, R>>⟧.refuses ∷ [])) (number_inside, (number_inside, tt))),
-                    ((level_ends.ends_inside-law R.row R.ReadSlice.own (given 0) R.Source (given 0)), tt),
-                  ),
+                  (tuple_inside (part_of ⟦<u16 as Deserialize<'de, R>>⟧.reads ⟦<u16 as Deserialize<'de, R>>⟧.refuses
+                      ∷ (part_of ⟦<u16 as Deserialize<'de, R>>⟧.reads ⟦<u16 as Deserialize<'de, R>>⟧.refuses ∷ [])) (number_inside, (number_inside, tt))),
+                  ((level_ends.ends_inside-law R.row R.ReadSlice.own (given 0) R.Source (given 0)), tt),
                 ),
               ),
             ),
@@ -622,6 +624,22 @@ impl<'de, R: ReadSlice<'de>> RoundTrip<'de, R> for Proxy {
         × ⟦<String as RoundTrip<'de, R>>⟧.same v.name w.name × ⟦<[u8; 4] as RoundTrip<'de, R>>⟧.same v.address w.address
         × ⟦<(u16, i32) as RoundTrip<'de, R>>⟧.same v.ports w.ports × ⟦<F64Bits as RoundTrip<'de, R>>⟧.same v.load w.load
         × ⟦<Level as RoundTrip<'de, R>>⟧.same v.level w.level };
+
+    ghost alike = { λ human v w h i. structure_of ((codes "host", (text_alike (string_bytes v.host) (string_bytes w.host) h.0 i))
+        ∷ ((
+          codes "tries",
+          (option_alike ⟦<u8 as RoundTrip<'de, R>>⟧.same (λ x. ⟦<u8 as Serialize>⟧.data_of x human)
+              (λ x4 yx4 h4 i. (⟦<u8 as Serialize>⟧.data_of (h4 i) human)) v.tries w.tries h.1 i),
+        )
+        ∷ ((codes "name", (text_alike (string_bytes v.name) (string_bytes w.name) h.2 i))
+        ∷ ((
+          codes "address",
+          (array_alike ⟦<u8 as RoundTrip<'de, R>>⟧.same (λ x. ⟦<u8 as Serialize>⟧.data_of x human)
+              (λ x5 yx5 h5 i. (⟦<u8 as Serialize>⟧.data_of (h5 i) human)) v.address w.address h.3 i),
+        )
+        ∷ ((codes "ports", (tuple_of ((⟦<u16 as Serialize>⟧.data_of (h.4.0 i) human) ∷ ((⟦<i32 as Serialize>⟧.data_of (h.4.1 i) human) ∷ []))))
+        ∷ ((codes "load", (float64_alike v.load.0 w.load.0 h.5 i))
+        ∷ ((codes "level", (level_rounds.alike-law R.row R.ReadSlice.own (given 0) R.Source (given 0) human v.level w.level h.6 i)) ∷ []))))))) };
 
     ghost only = { λ s v fits. lowers_then s _ _ (λ m. (w : _) → (⟦<Proxy as Deserialize<'de, R>>⟧.reads s.human R.lends) m w
         → ⟦<String as RoundTrip<'de, R>>⟧.same v.host w.host × ⟦<Option<u8> as RoundTrip<'de, R>>⟧.same v.tries w.tries
@@ -845,6 +863,25 @@ impl<'de, R: ReadSlice<'de>> RoundTrip<'de, R> for Lists {
         × ⟦<BTreeMap<String, u64> as RoundTrip<'de, R>>⟧.same v.counts w.counts × ⟦<BTreeSet<u32> as RoundTrip<'de, R>>⟧.same v.seen w.seen
         × ⟦<ByteBuf as RoundTrip<'de, R>>⟧.same v.raw w.raw };
 
+    ghost alike = { λ human v w h i. structure_of ((codes "name", (text_alike (string_bytes v.name) (string_bytes w.name) h.0 i))
+        ∷ ((
+          codes "all",
+          (slice_alike ⟦<u16 as RoundTrip<'de, R>>⟧.same (λ x. ⟦<u16 as Serialize>⟧.data_of x human)
+              (λ x5 yx5 h5 i. (⟦<u16 as Serialize>⟧.data_of (h5 i) human)) v.list.items w.list.items h.1 i),
+        )
+        ∷ ((
+          codes "counts",
+          (mapping_alike ⟦<String as RoundTrip<'de, R>>⟧.same (λ x. ⟦<String as Serialize>⟧.data_of x human)
+              (λ x6 yx6 h6 i. (text_alike (string_bytes x6) (string_bytes yx6) h6 i)) ⟦<u64 as RoundTrip<'de, R>>⟧.same
+              (λ x. ⟦<u64 as Serialize>⟧.data_of x human) (λ x7 yx7 h7 i. (⟦<u64 as Serialize>⟧.data_of (h7 i) human)) v.counts.entries w.counts.entries h.2 i),
+        )
+        ∷ ((
+          codes "seen",
+          (sequence_alike ⟦<u32 as RoundTrip<'de, R>>⟧.same (λ x. ⟦<u32 as Serialize>⟧.data_of x human)
+              (λ x8 yx8 h8 i. (⟦<u32 as Serialize>⟧.data_of (h8 i) human)) v.seen.keys w.seen.keys h.3 i),
+        )
+        ∷ ((codes "raw", (bytes_alike (buffer_bytes v.raw) (buffer_bytes w.raw) h.4 i)) ∷ []))))) };
+
     ghost only = { λ s v fits. lowers_then s _ _ (λ m. (w : _) → (⟦<Lists as Deserialize<'de, R>>⟧.reads s.human R.lends) m w
         → ⟦<String as RoundTrip<'de, R>>⟧.same v.name w.name × ⟦<Vec<u16> as RoundTrip<'de, R>>⟧.same v.list w.list
         × ⟦<BTreeMap<String, u64> as RoundTrip<'de, R>>⟧.same v.counts w.counts × ⟦<BTreeSet<u32> as RoundTrip<'de, R>>⟧.same v.seen w.seen
@@ -859,15 +896,18 @@ impl<'de, R: ReadSlice<'de>> RoundTrip<'de, R> for Lists {
         (Only (⟦<u16 as Deserialize<'de, R>>⟧.reads s.human R.lends) ⟦<u16 as RoundTrip<'de, R>>⟧.same) (λ x1 h1. (unsigned_only s 65535 x1)) v.list.items
         fits.1))) (fields_cons s (codes "counts") _ _ _ (λ j. Only (⟦<BTreeMap<String, u64> as Deserialize<'de, R>>⟧.reads s.human R.lends)
         ⟦<BTreeMap<String, u64> as RoundTrip<'de, R>>⟧.same j v.counts) ⊥ _
-        (map_only (⟦<String as Deserialize<'de, R>>⟧.reads s.human R.lends) (⟦<u64 as Deserialize<'de, R>>⟧.reads s.human R.lends)
-        ⟦<String as RoundTrip<'de, R>>⟧.same ⟦<u64 as RoundTrip<'de, R>>⟧.same s _ (λ w. w.entries) ⟦<String as Ord>⟧.cmp v.counts.entries
-        (pairs_row s (λ x. ⟦<String as Serialize>⟧.data_of x s.human) (λ x. ⟦<u64 as Serialize>⟧.data_of x s.human) ⟦<String as Serialize>⟧.is_value
-        ⟦<u64 as Serialize>⟧.is_value (Only (⟦<String as Deserialize<'de, R>>⟧.reads s.human R.lends) ⟦<String as RoundTrip<'de, R>>⟧.same)
+        (entries_only (⟦<String as Deserialize<'de, R>>⟧.reads s.human R.lends) (⟦<u64 as Deserialize<'de, R>>⟧.reads s.human R.lends)
+        ⟦<String as RoundTrip<'de, R>>⟧.same ⟦<u64 as RoundTrip<'de, R>>⟧.same s _ (λ w. w.entries) {cmp = ⟦<String as Ord>⟧.cmp}
+        (on_total (λ x. string_bytes x) nat_list_cmp_total) (λ x y e. tied (slice_cmp nat_cmp) nat_list_cmp_total (string_bytes x) (string_bytes y) e)
+        v.counts.entries fits.2.1 (pairs_row s (λ x. ⟦<String as Serialize>⟧.data_of x s.human) (λ x. ⟦<u64 as Serialize>⟧.data_of x s.human)
+        ⟦<String as Serialize>⟧.is_value ⟦<u64 as Serialize>⟧.is_value
+        (Only (⟦<String as Deserialize<'de, R>>⟧.reads s.human R.lends) ⟦<String as RoundTrip<'de, R>>⟧.same)
         (Only (⟦<u64 as Deserialize<'de, R>>⟧.reads s.human R.lends) ⟦<u64 as RoundTrip<'de, R>>⟧.same)
         (λ x2 h2. (string_only s (λ w. string_bytes w) (string_bytes x2))) (λ x3 h3. (unsigned_only s 18446744073709551615 x3)) v.counts.entries fits.2.0))
         (fields_cons s (codes "seen") _ _ _ (λ j. Only (⟦<BTreeSet<u32> as Deserialize<'de, R>>⟧.reads s.human R.lends)
         ⟦<BTreeSet<u32> as RoundTrip<'de, R>>⟧.same j v.seen) ⊥ _
-        (set_only s _ (λ w. w.keys) ⟦<u32 as Ord>⟧.cmp (⟦<u32 as Deserialize<'de, R>>⟧.reads s.human R.lends) ⟦<u32 as RoundTrip<'de, R>>⟧.same v.seen.keys
+        (set_only s _ (λ w. w.keys) {cmp = ⟦<u32 as Ord>⟧.cmp} (Prim.search (comparing, rules)) (⟦<u32 as Deserialize<'de, R>>⟧.reads s.human R.lends)
+        ⟦<u32 as RoundTrip<'de, R>>⟧.same (λ x y e. tied ⟦<u32 as Ord>⟧.cmp (Prim.search (comparing, rules)) x y e) v.seen.keys fits.3.1
         (sequence_row s _ (λ ms. ReadsEach (Only (⟦<u32 as Deserialize<'de, R>>⟧.reads s.human R.lends) ⟦<u32 as RoundTrip<'de, R>>⟧.same) ms v.seen.keys)
         (each_row s (λ x. ⟦<u32 as Serialize>⟧.data_of x s.human) ⟦<u32 as Serialize>⟧.is_value
         (Only (⟦<u32 as Deserialize<'de, R>>⟧.reads s.human R.lends) ⟦<u32 as RoundTrip<'de, R>>⟧.same) (λ x4 h4. (unsigned_only s 4294967295 x4))
@@ -1036,6 +1076,8 @@ impl<'de, R: ReadSlice<'de>> RoundTrip<'de, R> for Once {
 
     ghost same = { λ v w. ⟦<u8 as RoundTrip<'de, R>>⟧.same v.times w.times };
 
+    ghost alike = { λ human v w h i. structure_of ((codes "times", (⟦<u8 as Serialize>⟧.data_of (h i) human)) ∷ []) };
+
     ghost only = { λ s v fits. lowers_then s _ _ (λ m. (w : _) → (⟦<Once as Deserialize<'de, R>>⟧.reads s.human R.lends) m w
         → ⟦<u8 as RoundTrip<'de, R>>⟧.same v.times w.times)
         (structure_row s (codes "times" ∷ []) _ _ refl (fields_cons s (codes "times") _ _ _
@@ -1050,108 +1092,6 @@ impl NeverNil for Once {
 
 impl<'de, R: ReadSlice<'de>> EndsInside<'de, R> for Once {
     ghost ends_inside = { fields_inside _ _ _ (number_inside, tt) };
-}
-
-// 9 values, the first 8 of which are written before the others.
-#[derive(Drop)]
-struct NineParts<'r, E1, E2, E3, E4, E5, E6, E7, E8, E9> {
-    first: &'r E1,
-    second: &'r E2,
-    third: &'r E3,
-    fourth: &'r E4,
-    fifth: &'r E5,
-    sixth: &'r E6,
-    seventh: &'r E7,
-    eighth: &'r E8,
-    ninth: &'r E9,
-}
-
-impl<
-    'r,
-    E1: Serialize,
-    E2: Serialize,
-    E3: Serialize,
-    E4: Serialize,
-    E5: Serialize,
-    E6: Serialize,
-    E7: Serialize,
-    E8: Serialize,
-    E9: Serialize,
-> Elements for NineParts<'r, E1, E2, E3, E4, E5, E6, E7, E8, E9> {
-    ghost count = { 9 };
-
-    ghost parts_of = { λ v human. E1.data_of v.first.now human ∷ E2.data_of v.second.now human ∷ E3.data_of v.third.now human
-        ∷ E4.data_of v.fourth.now human ∷ E5.data_of v.fifth.now human ∷ E6.data_of v.sixth.now human ∷ E7.data_of v.seventh.now human
-        ∷ E8.data_of v.eighth.now human ∷ E9.data_of v.ninth.now human ∷ [] };
-
-    ghost are_values = { λ v. E1.is_value v.first.now × E2.is_value v.second.now × E3.is_value v.third.now × E4.is_value v.fourth.now
-        × E5.is_value v.fifth.now × E6.is_value v.sixth.now × E7.is_value v.seventh.now × E8.is_value v.eighth.now × E9.is_value v.ninth.now };
-
-    ghost refusals = { λ v. E1.refuses v.first.now ∷ E2.refuses v.second.now ∷ E3.refuses v.third.now ∷ E4.refuses v.fourth.now ∷ E5.refuses v.fifth.now
-        ∷ E6.refuses v.sixth.now ∷ E7.refuses v.seventh.now ∷ E8.refuses v.eighth.now ∷ E9.refuses v.ninth.now ∷ [] };
-
-    ghost takes_memory = { λ s. one_of (E1.takes_memory s
-        ∷ (E2.takes_memory s ∷ (E3.takes_memory s ∷ (E4.takes_memory s
-        ∷ (E5.takes_memory s ∷ (E6.takes_memory s ∷ (E7.takes_memory s ∷ (E8.takes_memory s ∷ (E9.takes_memory s ∷ []))))))))) };
-
-    ghost pieces = { λ v s.
-        value_of s (E1.data_of v.first.now s.human) (E1.marks v.first.now s) ∷
-        value_of s (E2.data_of v.second.now s.human) (E2.marks v.second.now s) ∷
-        value_of s (E3.data_of v.third.now s.human) (E3.marks v.third.now s) ∷
-        value_of s (E4.data_of v.fourth.now s.human) (E4.marks v.fourth.now s) ∷
-        value_of s (E5.data_of v.fifth.now s.human) (E5.marks v.fifth.now s) ∷
-        value_of s (E6.data_of v.sixth.now s.human) (E6.marks v.sixth.now s) ∷
-        value_of s (E7.data_of v.seventh.now s.human) (E7.marks v.seventh.now s) ∷
-        value_of s (E8.data_of v.eighth.now s.human) (E8.marks v.eighth.now s) ∷
-        value_of s (E9.data_of v.ninth.now s.human) (E9.marks v.ninth.now s) ∷ [] };
-
-    ghost counted = { λ v human. refl };
-
-    #[inline(always)]
-    fn len(&self) -> usize {
-        9
-    }
-
-    #[inline(always)]
-    fn write<W: Sink, C: SerializerConfig>(
-        &self,
-        se: &mut Serializer<W, C>,
-    ) -> Result<(), rmp_encode::Error> {
-        let front = rmp_encode::Eight {
-            first: self.first,
-            second: self.second,
-            third: self.third,
-            fourth: self.fourth,
-            fifth: self.fifth,
-            sixth: self.sixth,
-            seventh: self.seventh,
-            eighth: self.eighth,
-        };
-        let back = rmp_encode::One { first: self.ninth };
-        front.write(se)?;
-        back.write(se)
-    }
-
-    #[inline(always)]
-    fn write_fields<W: Sink, C: SerializerConfig>(
-        &self,
-        names: &[&'static str],
-        se: &mut Serializer<W, C>,
-    ) -> Result<(), rmp_encode::Error> {
-        let front = rmp_encode::Eight {
-            first: self.first,
-            second: self.second,
-            third: self.third,
-            fourth: self.fourth,
-            fifth: self.fifth,
-            sixth: self.sixth,
-            seventh: self.seventh,
-            eighth: self.eighth,
-        };
-        let back = rmp_encode::One { first: self.ninth };
-        front.write_fields(&names[..8], se)?;
-        back.write_fields(&names[8..], se)
-    }
 }
 
 // The text that was read, or a copy of this one.

@@ -19,6 +19,7 @@ ghost use Rattle.rmp_ends.specs.EnumEnds.{enum_inside, no_content_inside, with_c
 ghost use Rattle.rmp_ends.specs.FieldEnds.{fields_inside};
 ghost use Rattle.rmp_ends.specs.LeafEnds.{number_inside, string_inside};
 ghost use Rattle.rmp_ends.specs.RowEnds.{option_inside, tuple_inside};
+ghost use Rattle.rmp_round_trip.specs.AlikeData.{option_alike, text_alike, variant_alike};
 ghost use Rattle.rmp_round_trip.specs.LeafRounds.{byte_row, unsigned_row_16, unsigned_row_32, string_row};
 ghost use Rattle.rmp_round_trip.specs.OnlyFields.{AtPlace, AnyContent, content_fields, content_only, content_row, field_only, last_field, variant_both};
 ghost use Rattle.rmp_round_trip.specs.OnlyLeaves.{byte_only, unsigned_only, string_only};
@@ -140,6 +141,13 @@ impl<'de, R: ReadSlice<'de>> RoundTrip<'de, R> for V12 {
           × ⟦<u32 as RoundTrip<'de, R>>⟧.same a1 b1 × ⟦<u32 as RoundTrip<'de, R>>⟧.same a2 b2
     ] };
 
+    ghost alike = { λ human. elim [
+      | the_v12.V1 ↦ λ w h. variant_alike (λ x. ⟦<V12 as Serialize>⟧.data_of x human) w the_v12.V1 h
+          (λ i. Some (unit_variant (codes "V1")))
+      | the_v12.V2 a1 a2 ↦ λ w h. variant_alike (λ x. ⟦<V12 as Serialize>⟧.data_of x human) w (the_v12.V2 h.0 h.1)
+          h.2 (λ i. tuple_variant_of (codes "V2") ((⟦<u32 as Serialize>⟧.data_of (h.3 i) human) ∷ ((⟦<u32 as Serialize>⟧.data_of (h.4 i) human) ∷ [])))
+    ] };
+
     ghost only = { λ s. let names = codes "V1" ∷ (codes "V2" ∷ [])
         in elim [
           | the_v12.V1 ↦ λ fits. lowers_then s (Some (unit_variant (codes "V1"))) (OfVariant names (AtPlace 0 AnyContent)) (λ m. (w : _)
@@ -241,6 +249,13 @@ impl<'de, R: ReadSlice<'de>> RoundTrip<'de, R> for Two {
         ] };
 
     ghost same = { λ v w. elim v [ the_two.First ↦ (w ≡ the_two.First) | the_two.Second ↦ (w ≡ the_two.Second) ] };
+
+    ghost alike = { λ human. elim [
+      | the_two.First ↦ λ w h. variant_alike (λ x. ⟦<Two as Serialize>⟧.data_of x human) w the_two.First h
+          (λ i. Some (unit_variant (codes "First")))
+      | the_two.Second ↦ λ w h. variant_alike (λ x. ⟦<Two as Serialize>⟧.data_of x human) w the_two.Second h
+          (λ i. Some (unit_variant (codes "Second")))
+    ] };
 
     ghost only = { λ s. let names = codes "First" ∷ (codes "Second" ∷ [])
         in elim [
@@ -421,6 +436,19 @@ impl<'de, R: ReadSlice<'de>> RoundTrip<'de, R> for Four {
           × ⟦<u8 as RoundTrip<'de, R>>⟧.same a1 b1 × ⟦<u16 as RoundTrip<'de, R>>⟧.same a2 b2
       | the_four.Str a1 a2 ↦ (b1 : _) × (b2 : _)
           × (w ≡ the_four.Str b1 b2) × ⟦<u8 as RoundTrip<'de, R>>⟧.same a1 b1 × ⟦<String as RoundTrip<'de, R>>⟧.same a2 b2
+    ] };
+
+    ghost alike = { λ human. elim [
+      | the_four.Unit ↦ λ w h. variant_alike (λ x. ⟦<Four as Serialize>⟧.data_of x human) w the_four.Unit h
+          (λ i. Some (unit_variant (codes "Unit")))
+      | the_four.New a1 ↦ λ w h. variant_alike (λ x. ⟦<Four as Serialize>⟧.data_of x human) w (the_four.New h.0)
+          h.1 (λ i. newtype_variant_of (codes "New") (⟦<u8 as Serialize>⟧.data_of (h.2 i) human))
+      | the_four.Tup a1 a2 ↦ λ w h. variant_alike
+          (λ x. ⟦<Four as Serialize>⟧.data_of x human) w (the_four.Tup h.0 h.1) h.2
+          (λ i. tuple_variant_of (codes "Tup") ((⟦<u8 as Serialize>⟧.data_of (h.3 i) human) ∷ ((⟦<u16 as Serialize>⟧.data_of (h.4 i) human) ∷ [])))
+      | the_four.Str a1 a2 ↦ λ w h. variant_alike (λ x. ⟦<Four as Serialize>⟧.data_of x human) w (the_four.Str h.0 h.1) h.2
+          (λ i. struct_variant_of (codes "Str") ((codes "a", (⟦<u8 as Serialize>⟧.data_of (h.3 i) human))
+          ∷ ((codes "b", (text_alike (string_bytes a2) (string_bytes h.1) h.4 i)) ∷ [])))
     ] };
 
     ghost only = { λ s. let names = codes "Unit" ∷ (codes "New" ∷ (codes "Tup" ∷ (codes "Str" ∷ [])))
@@ -615,6 +643,19 @@ impl<'de, R: ReadSlice<'de>, T: RoundTrip<'de, R>> RoundTrip<'de, R> for Mixed<T
       | the_mixed.Other a1 ↦ (b1 : _) × (w ≡ the_mixed.Other b1) × T.same a1 b1
       | the_mixed.Kept a1 a2 ↦ (b1 : _) × (b2 : _)
           × (w ≡ the_mixed.Kept b1 b2) × ⟦<Option<Four> as RoundTrip<'de, R>>⟧.same a1 b1 × ⟦<Dog as RoundTrip<'de, R>>⟧.same a2 b2
+    ] };
+
+    ghost alike = { λ human. elim [
+      | the_mixed.Other a1 ↦ λ w h. variant_alike (λ x. ⟦<Mixed<T> as Serialize>⟧.data_of x human) w (the_mixed.Other h.0) h.1
+          (λ i. newtype_variant_of (codes "Other") (T.alike human a1 h.0 h.2 i))
+      | the_mixed.Kept a1 a2 ↦ λ w h. variant_alike
+          (λ x. ⟦<Mixed<T> as Serialize>⟧.data_of x human) w (the_mixed.Kept h.0 h.1) h.2
+          (λ i. struct_variant_of (codes "Kept") ((
+            codes "four",
+            (option_alike ⟦<Four as RoundTrip<'de, R>>⟧.same (λ x. ⟦<Four as Serialize>⟧.data_of x human)
+                (λ x3 yx3 h3 i. (four_rounds.alike-law R.row R.ReadSlice.own (given 0) R.Source (given 0) human x3 yx3 h3 i)) a1 h.0 h.3 i),
+          )
+          ∷ ((codes "dog", (dog_rounds.alike-law R.row R.ReadSlice.own (given 0) R.Source (given 0) human a2 h.1 h.4 i)) ∷ [])))
     ] };
 
     ghost only = { λ s. let names = codes "Other" ∷ (codes "Kept" ∷ [])

@@ -5,7 +5,6 @@
 //! Sum of Sorted: c74810f1.
 //! Sum of Kennel: 04c42596.
 //! Sum of Row: 04362a13.
-//! Sum of Chosen: 43088daf.
 //! Sum of Guests: ef313941.
 ghost use Rattle.rmp_decode.specs.Arrays.{Exactly};
 ghost use Rattle.rmp_decode.specs.EnumRefusing.{RefusesEnum, with_content};
@@ -17,42 +16,47 @@ ghost use Rattle.rmp_decode.specs.Seq.{OfRow};
 ghost use Rattle.rmp_decode.specs.Variants.{OfVariant, Case, NoCase, Content};
 ghost use Rattle.rmp_encode.specs.Refusals.{OfParts};
 ghost use Rattle.rmp_encode.specs.Sizes.{one_of};
-ghost use Rattle.rmp_encode.specs.Trees.{wrapped_of, sequence_of, structure_of, newtype_variant_of, struct_variant_of, tree_of};
+ghost use Rattle.rmp_encode.specs.Trees.{sequence_of, structure_of, newtype_variant_of, struct_variant_of, tree_of, tuple_of};
 ghost use Rattle.rmp_ends.specs.EnumEnds.{enum_inside, with_content_inside};
 ghost use Rattle.rmp_ends.specs.FieldEnds.{fields_inside};
 ghost use Rattle.rmp_ends.specs.LeafEnds.{kind_inside, number_inside, char_inside, string_inside};
 ghost use Rattle.rmp_ends.specs.MapEnds.{map_inside};
 ghost use Rattle.rmp_ends.specs.RowEnds.{array_inside, box_inside, each_inside, option_inside, tuple_inside};
-ghost use Rattle.rmp_round_trip.specs.LeafRounds.{byte_row, unsigned_row_16, unsigned_row_64, signed_row_8, signed_row_16};
+ghost use Rattle.rmp_round_trip.specs.AlikeData.{array_alike, mapping_alike, option_alike, sequence_alike, slice_alike, text_alike, variant_alike};
+ghost use Rattle.rmp_round_trip.specs.AlikeOrder.{tied};
 ghost use Rattle.rmp_round_trip.specs.LeafRounds.{signed_row_32, truth_row, char_row, string_row};
+ghost use Rattle.rmp_round_trip.specs.LeafRounds.{unsigned_row_16, unsigned_row_64, signed_row_8, signed_row_16};
 ghost use Rattle.rmp_round_trip.specs.MapRounds.{mapping_some, map_row, pairs_row, set_row};
 ghost use Rattle.rmp_round_trip.specs.OnlyFields.{AtPlace, content_fields, content_only, field_only, fields_both, last_field, variant_both};
-ghost use Rattle.rmp_round_trip.specs.OnlyLeaves.{truth_only, byte_only, unsigned_only, signed_only, char_only, string_only};
-ghost use Rattle.rmp_round_trip.specs.OnlyMaps.{map_only, set_only};
+ghost use Rattle.rmp_round_trip.specs.OnlyLeaves.{truth_only, unsigned_only, signed_only, char_only, string_only};
+ghost use Rattle.rmp_round_trip.specs.OnlyMaps.{entries_only, set_only};
 ghost use Rattle.rmp_round_trip.specs.OnlyRows.{array_only, item_only, last_only, list_only, lowers_then, option_only, row_both};
 ghost use Rattle.rmp_round_trip.specs.RoundTrip.{LowersTo, Only};
 ghost use Rattle.rmp_round_trip.specs.Rounds.{each_some, each_row, rows_map, option_some, option_row, slice_some, slice_row};
 ghost use Rattle.rmp_round_trip.specs.Rounds.{tuple_some, tuple_row, sequence_some, sequence_row, sequence_other, rows_none, rows_cons};
 ghost use Rattle.rmp_round_trip.specs.StructRounds.{sequence_all, tuple_all, structure_all, struct_variant_all};
 ghost use Rattle.rmp_round_trip.specs.StructRounds.{structure_row, structure_other, fields_none, fields_cons};
-ghost use Rattle.rmp_round_trip.specs.VariantRounds.{newtype_some, newtype_variant_some, newtype_row, newtype_variant_row};
-ghost use Rattle.rmp_round_trip.specs.VariantRounds.{struct_variant_row, newtype_other, newtype_variant_other, struct_variant_other};
+ghost use Rattle.rmp_round_trip.specs.VariantRounds.{newtype_variant_other, struct_variant_other};
+ghost use Rattle.rmp_round_trip.specs.VariantRounds.{newtype_variant_some, newtype_variant_row, struct_variant_row};
 ghost use Rattle.rmp_wire.specs.Msg.{nil};
-ghost use Rattle.std.proofs.Common.{refl};
+ghost use Rattle.std.proofs.Common.{refl, rules};
 ghost use Rattle.std.proofs.lemmas.Cmp.{on_total, nat_list_cmp_total};
+ghost use Rattle.std.specs.Cmp.Lexicographic.{slice_cmp};
+ghost use Rattle.std.specs.Cmp.Rules.{comparing};
 ghost use Rattle.std.specs.Option.{is_none};
+ghost use Rattle.std.specs.Ordering.{nat_cmp};
 ghost use Rattle.std.specs.Prelude.{◌≡◌, ◌≢◌, ◌∷◌, [], None, Some, codes, IsSome, string_bytes, pos, negsuc};
 ghost use Rattle.test_derived.specs.declared.enums.Mixed.TheVariants as the_mixed;
 ghost use Rattle.test_derived.specs.declared.kinds.Either.TheVariants as the_either;
 
 use super::{
-    BTreeMap, BTreeSet, Chosen, Counted, Dog, Either, Four, Guests, Kennel, Mixed, Opt, Pair, Row,
-    Sorted, VecDeque,
+    BTreeMap, BTreeSet, Counted, Dog, Either, Four, Guests, Kennel, Mixed, Opt, Pair, Row, Sorted,
+    VecDeque,
 };
 use rmp_decode::{Deserialize, Deserializer, ReadFields};
 use rmp_encode::{Serialize, Serializer};
 use rmp_ends::EndsInside;
-use rmp_round_trip::{NeverNil, RoundTrip};
+use rmp_round_trip::{ContentOrd, NeverNil, RoundTrip};
 use rmp_wire::config::SerializerConfig;
 use rmp_wire::{ReadSlice, Sink};
 
@@ -118,6 +122,8 @@ impl<'de, R: ReadSlice<'de>, T: RoundTrip<'de, R>> RoundTrip<'de, R> for Pair<T>
         (rows_cons s _ _ (λ j. T.reads s.human R.lends j v.1) _ (T.round lent s v.1 fits.1) (rows_none s))) };
 
     ghost same = { λ v w. T.same v.0 w.0 × T.same v.1 w.1 };
+
+    ghost alike = { λ human v w h i. sequence_of ((T.alike human v.0 w.0 h.0 i) ∷ ((T.alike human v.1 w.1 h.1 i) ∷ [])) };
 
     ghost only = { λ s v fits. lowers_then s _ _ (λ m. (w : _) → (⟦<Pair<T> as Deserialize<'de, R>>⟧.reads s.human R.lends) m w
         → T.same v.0 w.0 × T.same v.1 w.1) (sequence_row s _ _
@@ -256,6 +262,19 @@ impl<'de, R: ReadSlice<'de>, T: RoundTrip<'de, R>> RoundTrip<'de, R> for Either<
       | the_either.Left a1 ↦ (b1 : _) × (w ≡ the_either.Left b1) × T.same a1 b1
       | the_either.Right a1 a2 ↦ (b1 : _) × (b2 : _)
           × (w ≡ the_either.Right b1 b2) × ⟦<i32 as RoundTrip<'de, R>>⟧.same a1 b1 × ⟦<Option<Pair<T>> as RoundTrip<'de, R>>⟧.same a2 b2
+    ] };
+
+    ghost alike = { λ human. elim [
+      | the_either.Left a1 ↦ λ w h. variant_alike (λ x. ⟦<Either<T> as Serialize>⟧.data_of x human) w (the_either.Left h.0) h.1
+          (λ i. newtype_variant_of (codes "Left") (T.alike human a1 h.0 h.2 i))
+      | the_either.Right a1 a2 ↦ λ w h. variant_alike
+          (λ x. ⟦<Either<T> as Serialize>⟧.data_of x human) w (the_either.Right h.0 h.1) h.2
+          (λ i. struct_variant_of (codes "Right") ((codes "by", (⟦<i32 as Serialize>⟧.data_of (h.3 i) human))
+          ∷ ((
+            codes "pair",
+            (option_alike ⟦<Pair<T> as RoundTrip<'de, R>>⟧.same (λ x. ⟦<Pair<T> as Serialize>⟧.data_of x human)
+                (λ x3 yx3 h3 i. (sequence_of ((T.alike human x3.0 yx3.0 h3.0 i) ∷ ((T.alike human x3.1 yx3.1 h3.1 i) ∷ [])))) a2 h.1 h.4 i),
+          ) ∷ [])))
     ] };
 
     ghost only = { λ s. let names = codes "Left" ∷ (codes "Right" ∷ [])
@@ -398,7 +417,7 @@ impl<'de, R: ReadSlice<'de>, K: Deserialize<'de, R> + Ord> Deserialize<'de, R> f
     }
 }
 
-impl<'de, R: ReadSlice<'de>, K: RoundTrip<'de, R> + Ord> RoundTrip<'de, R> for Sorted<K> {
+impl<'de, R: ReadSlice<'de>, K: ContentOrd<'de, R> + Ord> RoundTrip<'de, R> for Sorted<K> {
     ghost use Rattle.test_derived.specs.contracts.structs.derived.DogRoundTrip.TheImpl.Laws as dog_rounds;
     ghost use mir.Syntax.{given};
 
@@ -435,30 +454,51 @@ impl<'de, R: ReadSlice<'de>, K: RoundTrip<'de, R> + Ord> RoundTrip<'de, R> for S
     ghost same = { λ v w. ⟦<BTreeMap<String, Dog> as RoundTrip<'de, R>>⟧.same v.dogs w.dogs
         × ⟦<BTreeMap<K, u64> as RoundTrip<'de, R>>⟧.same v.counts w.counts × ⟦<BTreeSet<i16> as RoundTrip<'de, R>>⟧.same v.numbers w.numbers };
 
+    ghost alike = { λ human v w h i. structure_of ((
+      codes "dogs",
+      (mapping_alike ⟦<String as RoundTrip<'de, R>>⟧.same (λ x. ⟦<String as Serialize>⟧.data_of x human)
+          (λ x6 yx6 h6 i. (text_alike (string_bytes x6) (string_bytes yx6) h6 i)) ⟦<Dog as RoundTrip<'de, R>>⟧.same
+          (λ x. ⟦<Dog as Serialize>⟧.data_of x human) (λ x7 yx7 h7 i.
+          (dog_rounds.alike-law R.row R.ReadSlice.own (given 0) R.Source (given 0) human x7 yx7 h7 i)) v.dogs.entries w.dogs.entries h.0 i),
+    )
+        ∷ ((
+          codes "counts",
+          (mapping_alike K.same (λ x. K.data_of x human) (λ x8 yx8 h8 i. (K.alike human x8 yx8 h8 i)) ⟦<u64 as RoundTrip<'de, R>>⟧.same
+              (λ x. ⟦<u64 as Serialize>⟧.data_of x human) (λ x9 yx9 h9 i. (⟦<u64 as Serialize>⟧.data_of (h9 i) human)) v.counts.entries w.counts.entries h.1 i),
+        )
+        ∷ ((
+          codes "numbers",
+          (sequence_alike ⟦<i16 as RoundTrip<'de, R>>⟧.same (λ x. ⟦<i16 as Serialize>⟧.data_of x human)
+              (λ x10 yx10 h10 i. (⟦<i16 as Serialize>⟧.data_of (h10 i) human)) v.numbers.keys w.numbers.keys h.2 i),
+        ) ∷ []))) };
+
     ghost only = { λ s v fits. lowers_then s _ _ (λ m. (w : _) → (⟦<Sorted<K> as Deserialize<'de, R>>⟧.reads s.human R.lends) m w
         → ⟦<BTreeMap<String, Dog> as RoundTrip<'de, R>>⟧.same v.dogs w.dogs × ⟦<BTreeMap<K, u64> as RoundTrip<'de, R>>⟧.same v.counts w.counts
         × ⟦<BTreeSet<i16> as RoundTrip<'de, R>>⟧.same v.numbers w.numbers)
         (structure_row s (codes "dogs" ∷ (codes "counts" ∷ (codes "numbers" ∷ []))) _ _ refl
         (fields_cons s (codes "dogs") _ _ _ (λ j. Only (⟦<BTreeMap<String, Dog> as Deserialize<'de, R>>⟧.reads s.human R.lends)
         ⟦<BTreeMap<String, Dog> as RoundTrip<'de, R>>⟧.same j v.dogs) ⊥ _
-        (map_only (⟦<String as Deserialize<'de, R>>⟧.reads s.human R.lends) (⟦<Dog as Deserialize<'de, R>>⟧.reads s.human R.lends)
-        ⟦<String as RoundTrip<'de, R>>⟧.same ⟦<Dog as RoundTrip<'de, R>>⟧.same s _ (λ w. w.entries) ⟦<String as Ord>⟧.cmp v.dogs.entries
-        (pairs_row s (λ x. ⟦<String as Serialize>⟧.data_of x s.human) (λ x. ⟦<Dog as Serialize>⟧.data_of x s.human) ⟦<String as Serialize>⟧.is_value
-        ⟦<Dog as Serialize>⟧.is_value (Only (⟦<String as Deserialize<'de, R>>⟧.reads s.human R.lends) ⟦<String as RoundTrip<'de, R>>⟧.same)
+        (entries_only (⟦<String as Deserialize<'de, R>>⟧.reads s.human R.lends) (⟦<Dog as Deserialize<'de, R>>⟧.reads s.human R.lends)
+        ⟦<String as RoundTrip<'de, R>>⟧.same ⟦<Dog as RoundTrip<'de, R>>⟧.same s _ (λ w. w.entries) {cmp = ⟦<String as Ord>⟧.cmp}
+        (on_total (λ x. string_bytes x) nat_list_cmp_total) (λ x y e. tied (slice_cmp nat_cmp) nat_list_cmp_total (string_bytes x) (string_bytes y) e)
+        v.dogs.entries fits.0.1 (pairs_row s (λ x. ⟦<String as Serialize>⟧.data_of x s.human) (λ x. ⟦<Dog as Serialize>⟧.data_of x s.human)
+        ⟦<String as Serialize>⟧.is_value ⟦<Dog as Serialize>⟧.is_value
+        (Only (⟦<String as Deserialize<'de, R>>⟧.reads s.human R.lends) ⟦<String as RoundTrip<'de, R>>⟧.same)
         (Only (⟦<Dog as Deserialize<'de, R>>⟧.reads s.human R.lends) ⟦<Dog as RoundTrip<'de, R>>⟧.same)
         (λ x1 h1. (string_only s (λ w. string_bytes w) (string_bytes x1)))
         (λ x2 h2. (dog_rounds.only-law R.row R.ReadSlice.own (given 0) R.Source (given 0) s x2 h2)) v.dogs.entries fits.0.0))
         (fields_cons s (codes "counts") _ _ _ (λ j. Only (⟦<BTreeMap<K, u64> as Deserialize<'de, R>>⟧.reads s.human R.lends)
         ⟦<BTreeMap<K, u64> as RoundTrip<'de, R>>⟧.same j v.counts) ⊥ _
-        (map_only (K.reads s.human R.lends) (⟦<u64 as Deserialize<'de, R>>⟧.reads s.human R.lends) K.same ⟦<u64 as RoundTrip<'de, R>>⟧.same s _
-        (λ w. w.entries) K.cmp v.counts.entries (pairs_row s (λ x. K.data_of x s.human) (λ x. ⟦<u64 as Serialize>⟧.data_of x s.human) K.is_value
-        ⟦<u64 as Serialize>⟧.is_value (Only (K.reads s.human R.lends) K.same)
-        (Only (⟦<u64 as Deserialize<'de, R>>⟧.reads s.human R.lends) ⟦<u64 as RoundTrip<'de, R>>⟧.same) (λ x3 h3. (K.only s x3 h3))
-        (λ x4 h4. (unsigned_only s 18446744073709551615 x4)) v.counts.entries fits.1.0))
+        (entries_only (K.reads s.human R.lends) (⟦<u64 as Deserialize<'de, R>>⟧.reads s.human R.lends) K.same ⟦<u64 as RoundTrip<'de, R>>⟧.same s _
+        (λ w. w.entries) {cmp = K.cmp} K.total K.equal v.counts.entries fits.1.1
+        (pairs_row s (λ x. K.data_of x s.human) (λ x. ⟦<u64 as Serialize>⟧.data_of x s.human) K.is_value ⟦<u64 as Serialize>⟧.is_value
+        (Only (K.reads s.human R.lends) K.same) (Only (⟦<u64 as Deserialize<'de, R>>⟧.reads s.human R.lends) ⟦<u64 as RoundTrip<'de, R>>⟧.same)
+        (λ x3 h3. (K.only s x3 h3)) (λ x4 h4. (unsigned_only s 18446744073709551615 x4)) v.counts.entries fits.1.0))
         (fields_cons s (codes "numbers") _ _ _ (λ j. Only (⟦<BTreeSet<i16> as Deserialize<'de, R>>⟧.reads s.human R.lends)
         ⟦<BTreeSet<i16> as RoundTrip<'de, R>>⟧.same j v.numbers) ⊥ _
-        (set_only s _ (λ w. w.keys) ⟦<i16 as Ord>⟧.cmp (⟦<i16 as Deserialize<'de, R>>⟧.reads s.human R.lends) ⟦<i16 as RoundTrip<'de, R>>⟧.same
-        v.numbers.keys (sequence_row s _ (λ ms. ReadsEach (Only (⟦<i16 as Deserialize<'de, R>>⟧.reads s.human R.lends) ⟦<i16 as RoundTrip<'de, R>>⟧.same) ms
+        (set_only s _ (λ w. w.keys) {cmp = ⟦<i16 as Ord>⟧.cmp} (Prim.search (comparing, rules)) (⟦<i16 as Deserialize<'de, R>>⟧.reads s.human R.lends)
+        ⟦<i16 as RoundTrip<'de, R>>⟧.same (λ x y e. tied ⟦<i16 as Ord>⟧.cmp (Prim.search (comparing, rules)) x y e) v.numbers.keys fits.2.1
+        (sequence_row s _ (λ ms. ReadsEach (Only (⟦<i16 as Deserialize<'de, R>>⟧.reads s.human R.lends) ⟦<i16 as RoundTrip<'de, R>>⟧.same) ms
         v.numbers.keys) (each_row s (λ x. ⟦<i16 as Serialize>⟧.data_of x s.human) ⟦<i16 as Serialize>⟧.is_value
         (Only (⟦<i16 as Deserialize<'de, R>>⟧.reads s.human R.lends) ⟦<i16 as RoundTrip<'de, R>>⟧.same)
         (λ x5 h5. (signed_only s (negsuc 32767) (pos 32767) x5)) v.numbers.keys fits.2.0))) (fields_none s)))))
@@ -653,6 +693,36 @@ impl<'de, R: ReadSlice<'de>> RoundTrip<'de, R> for Kennel {
 
     ghost same = { λ v w. ⟦<Vec<Dog> as RoundTrip<'de, R>>⟧.same v.dogs w.dogs × ⟦<Box<Four> as RoundTrip<'de, R>>⟧.same v.four w.four
         × ⟦<Pair<Opt> as RoundTrip<'de, R>>⟧.same v.pair w.pair × ⟦<Option<Either<bool>> as RoundTrip<'de, R>>⟧.same v.either w.either };
+
+    ghost alike = { λ human v w h i. structure_of ((
+      codes "dogs",
+      (slice_alike ⟦<Dog as RoundTrip<'de, R>>⟧.same (λ x. ⟦<Dog as Serialize>⟧.data_of x human)
+          (λ x6 yx6 h6 i. (dog_rounds.alike-law R.row R.ReadSlice.own (given 0) R.Source (given 0) human x6 yx6 h6 i)) v.dogs.items w.dogs.items h.0 i),
+    )
+        ∷ ((codes "four", (four_rounds.alike-law R.row R.ReadSlice.own (given 0) R.Source (given 0) human v.four.value w.four.value h.1 i))
+        ∷ ((
+          codes "pair",
+          (sequence_of ((opt_rounds.alike-law R.row R.ReadSlice.own (given 0) R.Source (given 0) human v.pair.0 w.pair.0 h.2.0 i)
+              ∷ ((opt_rounds.alike-law R.row R.ReadSlice.own (given 0) R.Source (given 0) human v.pair.1 w.pair.1 h.2.1 i) ∷ []))),
+        )
+        ∷ ((
+          codes "either",
+          (option_alike ⟦<Either<bool> as RoundTrip<'de, R>>⟧.same (λ x. ⟦<Either<bool> as Serialize>⟧.data_of x human)
+              (λ x7 yx7 h7 i. (let law : (x y : _) → ⟦<Either<bool> as RoundTrip<'de, R>>⟧.same x y
+              → ⟦<Either<bool> as Serialize>⟧.data_of x human ≡ ⟦<Either<bool> as Serialize>⟧.data_of y human = elim [
+                | the_either.Left a1 ↦ λ w h. variant_alike (λ x. ⟦<Either<bool> as Serialize>⟧.data_of x human) w (the_either.Left h.0) h.1
+                    (λ i. newtype_variant_of (codes "Left") (⟦<bool as Serialize>⟧.data_of (h.2 i) human))
+                | the_either.Right a1 a2 ↦ λ w h. variant_alike
+                    (λ x. ⟦<Either<bool> as Serialize>⟧.data_of x human) w (the_either.Right h.0 h.1) h.2
+                    (λ i. struct_variant_of (codes "Right") ((codes "by", (⟦<i32 as Serialize>⟧.data_of (h.3 i) human))
+                    ∷ ((
+                      codes "pair",
+                      (option_alike ⟦<Pair<bool> as RoundTrip<'de, R>>⟧.same (λ x. ⟦<Pair<bool> as Serialize>⟧.data_of x human)
+                          (λ x8 yx8 h8 i. (sequence_of ((⟦<bool as Serialize>⟧.data_of (h8.0 i) human) ∷ ((⟦<bool as Serialize>⟧.data_of (h8.1 i) human) ∷ [])))) a2 h.1 h.4
+                          i),
+                    ) ∷ [])))
+              ] in law x7 yx7 h7 i)) v.either w.either h.3 i),
+        ) ∷ [])))) };
 
     ghost only = { λ s v fits. lowers_then s _ _ (λ m. (w : _) → (⟦<Kennel as Deserialize<'de, R>>⟧.reads s.human R.lends) m w
         → ⟦<Vec<Dog> as RoundTrip<'de, R>>⟧.same v.dogs w.dogs × ⟦<Box<Four> as RoundTrip<'de, R>>⟧.same v.four w.four
@@ -879,6 +949,18 @@ impl<'de, R: ReadSlice<'de>> RoundTrip<'de, R> for Row {
     ghost same = { λ v w. ⟦<VecDeque<(char, i8)> as RoundTrip<'de, R>>⟧.same v.left w.left × ⟦<[u16; 3] as RoundTrip<'de, R>>⟧.same v.far w.far
         × ⟦<Kennel as RoundTrip<'de, R>>⟧.same v.kennel w.kennel };
 
+    ghost alike = { λ human v w h i. structure_of ((
+      codes "left",
+      (sequence_alike ⟦<(char, i8) as RoundTrip<'de, R>>⟧.same (λ x. ⟦<(char, i8) as Serialize>⟧.data_of x human)
+          (λ x3 yx3 h3 i. (tuple_of ((⟦<char as Serialize>⟧.data_of (h3.0 i) human) ∷ ((⟦<i8 as Serialize>⟧.data_of (h3.1 i) human) ∷ [])))) v.left.items
+          w.left.items h.0 i),
+    ) ∷ ((
+      codes "far",
+      (array_alike ⟦<u16 as RoundTrip<'de, R>>⟧.same (λ x. ⟦<u16 as Serialize>⟧.data_of x human)
+          (λ x4 yx4 h4 i. (⟦<u16 as Serialize>⟧.data_of (h4 i) human)) v.far w.far h.1 i),
+    )
+        ∷ ((codes "kennel", (kennel_rounds.alike-law R.row R.ReadSlice.own (given 0) R.Source (given 0) human v.kennel w.kennel h.2 i)) ∷ []))) };
+
     ghost only = { λ s v fits. lowers_then s _ _ (λ m. (w : _) → (⟦<Row as Deserialize<'de, R>>⟧.reads s.human R.lends) m w
         → ⟦<VecDeque<(char, i8)> as RoundTrip<'de, R>>⟧.same v.left w.left × ⟦<[u16; 3] as RoundTrip<'de, R>>⟧.same v.far w.far
         × ⟦<Kennel as RoundTrip<'de, R>>⟧.same v.kennel w.kennel)
@@ -927,158 +1009,6 @@ impl<'de, R: ReadSlice<'de>> EndsInside<'de, R> for Row {
         ((kennel_ends.ends_inside-law R.row R.ReadSlice.own (given 0) R.Source (given 0)), tt),
       ),
     ) };
-}
-
-impl Serialize for Chosen {
-    ghost data_of = { λ v human. wrapped_of (⟦<Either<u8> as Serialize>⟧.data_of v.0 human) };
-
-    ghost is_value = { λ v. ⟦<Either<u8> as Serialize>⟧.is_value v.0 };
-
-    ghost takes_memory = { λ s. ⟦<Either<u8> as Serialize>⟧.takes_memory s };
-
-    ghost refuses = { λ v. ⟦<Either<u8> as Serialize>⟧.refuses v.0 };
-
-    fn serialize<W: Sink, C: SerializerConfig>(
-        &self,
-        se: &mut Serializer<W, C>,
-    ) -> Result<(), rmp_encode::Error> {
-        se.serialize_newtype_struct("Chosen", &self.0)
-    }
-
-    #[tactic(auto, using(rmp_encode::proofs::Wrapped::wrapped_no_byte))]
-    fn as_u8(&self, _human: bool) -> Option<u8> {
-        None
-    }
-}
-
-impl<'de, R: ReadSlice<'de>> Deserialize<'de, R> for Chosen {
-    ghost reads = { λ human lends m v. ⟦<Either<u8> as Deserialize<'de, R>>⟧.reads human lends m v.0 };
-
-    ghost absent = { None };
-
-    ghost refuses = { ⟦<Either<u8> as Deserialize<'de, R>>⟧.refuses };
-
-    #[inline(always)]
-    fn deserialize<C: SerializerConfig>(
-        de: &mut Deserializer<R, C>,
-    ) -> Result<Chosen, rmp_decode::Error> {
-        match de.deserialize_newtype_struct("Chosen") {
-            Ok(first) => return Ok(Chosen(first)),
-            Err(e) => return Err(e),
-        }
-    }
-
-    fn missing() -> Option<Chosen> {
-        None
-    }
-}
-
-impl<'de, R: ReadSlice<'de>> RoundTrip<'de, R> for Chosen {
-    ghost has_data = { λ human v. newtype_some (⟦<Either<u8> as Serialize>⟧.data_of v.0 human) (let law : (x : _)
-        → IsSome (⟦<Either<u8> as Serialize>⟧.data_of x human) = elim [
-          | the_either.Left a1 ↦ newtype_variant_some (codes "Left") (⟦<u8 as Serialize>⟧.data_of a1 human) refl
-          | the_either.Right a1 a2 ↦ struct_variant_all
-              (codes "Right") ((codes "by", ⟦<i32 as Serialize>⟧.data_of a1 human) ∷ ((codes "pair", ⟦<Option<Pair<u8>> as Serialize>⟧.data_of a2 human) ∷ [])) (
-                refl,
-                (
-                  (option_some (λ x. ⟦<Pair<u8> as Serialize>⟧.data_of x human)
-                      (λ x2. (sequence_all (⟦<u8 as Serialize>⟧.data_of x2.0 human ∷ (⟦<u8 as Serialize>⟧.data_of x2.1 human ∷ [])) (refl, (refl, tt)))) a2),
-                  tt,
-                ),
-              )
-        ]
-        in law v.0) };
-
-    ghost round = { λ lent s v fits. newtype_row s (⟦<Either<u8> as Serialize>⟧.data_of v.0 s.human)
-        (λ j. ⟦<Either<u8> as Deserialize<'de, R>>⟧.reads s.human R.lends j v.0) (let law : (x : _) → ⟦<Either<u8> as Serialize>⟧.is_value x
-        → LowersTo s (⟦<Either<u8> as Serialize>⟧.data_of x s.human)
-        (λ m. ⟦<Either<u8> as Deserialize<'de, R>>⟧.reads s.human R.lends m x) = let names = codes "Left" ∷ (codes "Right" ∷ [])
-        in elim [
-          | the_either.Left a1 ↦ λ fits. newtype_variant_row s names (codes "Left") 0 refl _ _
-              (λ j. ⟦<u8 as Deserialize<'de, R>>⟧.reads s.human R.lends j a1) (λ m h. (a1, refl, h)) (byte_row s a1 fits)
-          | the_either.Right a1 a2 ↦ λ fits.
-              struct_variant_row s names (codes "Right") 1 refl _ (codes "by" ∷ (codes "pair" ∷ [])) _ _ refl (λ m h. (a1, a2, refl, h))
-              (fields_cons s (codes "by") _ _ _ (λ j. ⟦<i32 as Deserialize<'de, R>>⟧.reads s.human R.lends j a1) (Absent ⟦<i32 as Deserialize<'de, R>>⟧.absent a1)
-              _ (signed_row_32 s a1 fits.0) (fields_cons s (codes "pair") _ _ _ (λ j. ⟦<Option<Pair<u8>> as Deserialize<'de, R>>⟧.reads s.human R.lends j a2)
-              (Absent ⟦<Option<Pair<u8>> as Deserialize<'de, R>>⟧.absent a2) _
-              (option_row s (λ x. ⟦<Pair<u8> as Serialize>⟧.data_of x s.human) ⟦<Pair<u8> as Serialize>⟧.is_value
-              (⟦<Pair<u8> as Deserialize<'de, R>>⟧.reads s.human R.lends) (λ x5. sequence_other s _)
-              (λ x4 h4. (sequence_row s _ _ (rows_cons s _ _ (λ j. ⟦<u8 as Deserialize<'de, R>>⟧.reads s.human R.lends j x4.0) _ (byte_row s x4.0 h4.0)
-              (rows_cons s _ _ (λ j. ⟦<u8 as Deserialize<'de, R>>⟧.reads s.human R.lends j x4.1) _ (byte_row s x4.1 h4.1) (rows_none s))))) a2 fits.1)
-              (fields_none s)))
-        ] in law v.0 fits) };
-
-    ghost same = { λ v w. ⟦<Either<u8> as RoundTrip<'de, R>>⟧.same v.0 w.0 };
-
-    ghost only = { λ s v fits. lowers_then s (wrapped_of (⟦<Either<u8> as Serialize>⟧.data_of v.0 s.human))
-        (λ j. Only (⟦<Either<u8> as Deserialize<'de, R>>⟧.reads s.human R.lends) ⟦<Either<u8> as RoundTrip<'de, R>>⟧.same j v.0) (λ m. (w : _)
-        → (⟦<Chosen as Deserialize<'de, R>>⟧.reads s.human R.lends) m w
-        → ⟦<Either<u8> as RoundTrip<'de, R>>⟧.same v.0 w.0)
-        (newtype_row s (⟦<Either<u8> as Serialize>⟧.data_of v.0 s.human)
-        (λ j. Only (⟦<Either<u8> as Deserialize<'de, R>>⟧.reads s.human R.lends) ⟦<Either<u8> as RoundTrip<'de, R>>⟧.same j v.0) (let law : (x : _)
-        → ⟦<Either<u8> as Serialize>⟧.is_value x → LowersTo s (⟦<Either<u8> as Serialize>⟧.data_of x s.human)
-        (λ m. (Only (⟦<Either<u8> as Deserialize<'de, R>>⟧.reads s.human R.lends) ⟦<Either<u8> as RoundTrip<'de, R>>⟧.same) m x) = let names = codes "Left"
-        ∷ (codes "Right" ∷ []) in elim [
-          | the_either.Left a1 ↦ λ fits. lowers_then s _ _ (λ m. (w : _)
-              → (⟦<Either<u8> as Deserialize<'de, R>>⟧.reads s.human R.lends) m w
-              → (b1 : _) × (w ≡ the_either.Left b1) × ⟦<u8 as RoundTrip<'de, R>>⟧.same a1 b1)
-              (newtype_variant_row s names (codes "Left") 0 refl
-              (AtPlace 0 (Content (λ j. Only (⟦<u8 as Deserialize<'de, R>>⟧.reads s.human R.lends) ⟦<u8 as RoundTrip<'de, R>>⟧.same j a1))) _
-              (λ j. Only (⟦<u8 as Deserialize<'de, R>>⟧.reads s.human R.lends) ⟦<u8 as RoundTrip<'de, R>>⟧.same j a1) (λ m h. (refl, h)) (byte_only s a1))
-              (λ m q w r. variant_both names 0 _ _ _ m q r (λ c a b.
-              (b.0, b.1, content_only (⟦<u8 as Deserialize<'de, R>>⟧.reads s.human R.lends) ⟦<u8 as RoundTrip<'de, R>>⟧.same a1 b.0 c a b.2)))
-          | the_either.Right
-              a1 a2 ↦ λ fits. lowers_then s _ _ (λ m. (w : _) → (⟦<Either<u8> as Deserialize<'de, R>>⟧.reads s.human R.lends) m w
-              → (b1 : _) × (b2 : _) × (w ≡ the_either.Right b1 b2) × ⟦<i32 as RoundTrip<'de, R>>⟧.same a1 b1
-              × ⟦<Option<Pair<u8>> as RoundTrip<'de, R>>⟧.same a2 b2)
-              (struct_variant_row s names (codes "Right") 1 refl
-              (AtPlace 1 (Content (OfFields (codes "by" ∷ (codes "pair" ∷ []))
-              (Field (λ j. Only (⟦<i32 as Deserialize<'de, R>>⟧.reads s.human R.lends) ⟦<i32 as RoundTrip<'de, R>>⟧.same j a1) ⊥
-              (Field (λ j. Only (⟦<Option<Pair<u8>> as Deserialize<'de, R>>⟧.reads s.human R.lends) ⟦<Option<Pair<u8>> as RoundTrip<'de, R>>⟧.same j a2) ⊥
-              NoField))))) (codes "by" ∷ (codes "pair" ∷ [])) _ _ refl (λ m h. (refl, h))
-              (fields_cons s (codes "by") _ _ _ (λ j. Only (⟦<i32 as Deserialize<'de, R>>⟧.reads s.human R.lends) ⟦<i32 as RoundTrip<'de, R>>⟧.same j a1) ⊥ _
-              (signed_only s (negsuc 2147483647) (pos 2147483647) a1)
-              (fields_cons s (codes "pair") _ _ _ (λ j. Only (⟦<Option<Pair<u8>> as Deserialize<'de, R>>⟧.reads s.human R.lends)
-              ⟦<Option<Pair<u8>> as RoundTrip<'de, R>>⟧.same j a2) ⊥ _
-              (option_only s _ (⟦<Pair<u8> as Deserialize<'de, R>>⟧.reads s.human R.lends) ⟦<Pair<u8> as RoundTrip<'de, R>>⟧.same a2
-              (option_row s (λ x. ⟦<Pair<u8> as Serialize>⟧.data_of x s.human) ⟦<Pair<u8> as Serialize>⟧.is_value
-              (Only (⟦<Pair<u8> as Deserialize<'de, R>>⟧.reads s.human R.lends) ⟦<Pair<u8> as RoundTrip<'de, R>>⟧.same) (λ x2. sequence_other s _)
-              (λ x1 h1. (lowers_then s _ _ (λ m. (w : _) → (⟦<Pair<u8> as Deserialize<'de, R>>⟧.reads s.human R.lends) m w
-              → ⟦<u8 as RoundTrip<'de, R>>⟧.same x1.0 w.0 × ⟦<u8 as RoundTrip<'de, R>>⟧.same x1.1 w.1)
-              (sequence_row s _ _ (rows_cons s _ _ (λ j. Only (⟦<u8 as Deserialize<'de, R>>⟧.reads s.human R.lends) ⟦<u8 as RoundTrip<'de, R>>⟧.same j x1.0) _
-              (byte_only s x1.0) (rows_cons s _ _ (λ j. Only (⟦<u8 as Deserialize<'de, R>>⟧.reads s.human R.lends) ⟦<u8 as RoundTrip<'de, R>>⟧.same j x1.1) _
-              (byte_only s x1.1) (rows_none s)))) (λ m q w r. row_both _ _ _ m q r
-              (item_only (⟦<u8 as Deserialize<'de, R>>⟧.reads s.human R.lends) ⟦<u8 as RoundTrip<'de, R>>⟧.same x1.0 w.0 _ _ _
-              (last_only (⟦<u8 as Deserialize<'de, R>>⟧.reads s.human R.lends) ⟦<u8 as RoundTrip<'de, R>>⟧.same x1.1 w.1))))) a2 fits.1)) (fields_none s))))
-              (λ m q w r. variant_both names 1 _ _ _ m q r (λ c a b. content_fields (codes "by" ∷ (codes "pair" ∷ [])) _ _ _ c a b.3
-              (λ ks i j. let x = field_only (⟦<i32 as Deserialize<'de, R>>⟧.reads s.human R.lends) ⟦<i32 as RoundTrip<'de, R>>⟧.same a1 b.0 _ _ _ _
-              (last_field (⟦<Option<Pair<u8>> as Deserialize<'de, R>>⟧.reads s.human R.lends) ⟦<Option<Pair<u8>> as RoundTrip<'de, R>>⟧.same a2 b.1 _) ks i j
-              in (b.0, b.1, b.2, x.0, x.1))))
-        ] in law v.0 fits)) (λ m q w r. q w.0 r) };
-}
-
-impl NeverNil for Chosen {
-    ghost never_nil = { λ s v. newtype_other s (⟦<Either<u8> as Serialize>⟧.data_of v.0 s.human)
-        ((let law : (x : _) → tree_of s (⟦<Either<u8> as Serialize>⟧.data_of x s.human) ≢ Some nil = elim
-        [ the_either.Left a1 ↦ newtype_variant_other s (codes "Left") _ | the_either.Right a1 a2 ↦ struct_variant_other s (codes "Right") _ ] in law v.0)) };
-}
-
-impl<'de, R: ReadSlice<'de>> EndsInside<'de, R> for Chosen {
-    ghost ends_inside = { (enum_inside _ _ (
-      with_content_inside _ (number_inside),
-      (
-        with_content_inside _ (fields_inside _ _ _ (
-          number_inside,
-          (
-            (option_inside ⟦<Pair<u8> as Deserialize<'de, R>>⟧.refuses
-                (tuple_inside (part_of ⟦<u8 as Deserialize<'de, R>>⟧.reads ⟦<u8 as Deserialize<'de, R>>⟧.refuses
-                ∷ (part_of ⟦<u8 as Deserialize<'de, R>>⟧.reads ⟦<u8 as Deserialize<'de, R>>⟧.refuses ∷ [])) (number_inside, (number_inside, tt)))),
-            tt,
-          ),
-        )),
-        tt,
-      ),
-    )) };
 }
 
 impl Serialize for Guests {
@@ -1197,6 +1127,32 @@ impl<'de, R: ReadSlice<'de>> RoundTrip<'de, R> for Guests {
         ] in law v.mixed fits.1) (fields_none s))) };
 
     ghost same = { λ v w. ⟦<Counted<Opt> as RoundTrip<'de, R>>⟧.same v.counted w.counted × ⟦<Mixed<bool> as RoundTrip<'de, R>>⟧.same v.mixed w.mixed };
+
+    ghost alike = { λ human v w h i. structure_of ((
+      codes "counted",
+      (structure_of ((
+        codes "value",
+        (opt_rounds.alike-law R.row R.ReadSlice.own (given 0) R.Source (given 0) human v.counted.value w.counted.value h.0.0
+            i),
+      ) ∷ ((codes "count", (⟦<u64 as Serialize>⟧.data_of (h.0.1 i) human)) ∷ []))),
+    )
+        ∷ ((
+          codes "mixed",
+          (let law : (x y : _) → ⟦<Mixed<bool> as RoundTrip<'de, R>>⟧.same x y
+              → ⟦<Mixed<bool> as Serialize>⟧.data_of x human ≡ ⟦<Mixed<bool> as Serialize>⟧.data_of y human = elim [
+                | the_mixed.Other a1 ↦ λ w h. variant_alike (λ x. ⟦<Mixed<bool> as Serialize>⟧.data_of x human) w (the_mixed.Other h.0) h.1
+                    (λ i. newtype_variant_of (codes "Other") (⟦<bool as Serialize>⟧.data_of (h.2 i) human))
+                | the_mixed.Kept a1 a2 ↦ λ w h. variant_alike
+                    (λ x. ⟦<Mixed<bool> as Serialize>⟧.data_of x human) w (the_mixed.Kept h.0 h.1) h.2
+                    (λ i. struct_variant_of (codes "Kept") ((
+                      codes "four",
+                      (option_alike ⟦<Four as RoundTrip<'de, R>>⟧.same (λ x. ⟦<Four as Serialize>⟧.data_of x human)
+                          (λ x3 yx3 h3 i. (four_rounds.alike-law R.row R.ReadSlice.own (given 0) R.Source (given 0) human x3 yx3 h3 i)) a1 h.0 h.3 i),
+                    )
+                    ∷ ((codes "dog", (dog_rounds.alike-law R.row R.ReadSlice.own (given 0) R.Source (given 0) human a2 h.1 h.4 i)) ∷ [])))
+              ]
+              in law v.mixed w.mixed h.1 i),
+        ) ∷ [])) };
 
     ghost only = { λ s v fits. lowers_then s _ _ (λ m. (w : _) → (⟦<Guests as Deserialize<'de, R>>⟧.reads s.human R.lends) m w
         → ⟦<Counted<Opt> as RoundTrip<'de, R>>⟧.same v.counted w.counted × ⟦<Mixed<bool> as RoundTrip<'de, R>>⟧.same v.mixed w.mixed)

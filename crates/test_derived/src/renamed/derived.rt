@@ -15,6 +15,7 @@ ghost use Rattle.rmp_ends.specs.EnumEnds.{enum_inside, no_content_inside, with_c
 ghost use Rattle.rmp_ends.specs.FieldEnds.{fields_inside};
 ghost use Rattle.rmp_ends.specs.LeafEnds.{number_inside, string_inside};
 ghost use Rattle.rmp_ends.specs.RowEnds.{option_inside};
+ghost use Rattle.rmp_round_trip.specs.AlikeData.{option_alike, text_alike, variant_alike};
 ghost use Rattle.rmp_round_trip.specs.LeafRounds.{byte_row, unsigned_row_16, unsigned_row_64, string_row, pos_other};
 ghost use Rattle.rmp_round_trip.specs.OnlyFields.{AtPlace, AnyContent, content_fields, content_only, field_only, fields_both, last_field, variant_both};
 ghost use Rattle.rmp_round_trip.specs.OnlyLeaves.{byte_only, unsigned_only, string_only};
@@ -125,6 +126,14 @@ impl<'de, R: ReadSlice<'de>> RoundTrip<'de, R> for Parcel {
 
     ghost same = { λ v w. ⟦<String as RoundTrip<'de, R>>⟧.same v.sent_by w.sent_by × ⟦<u8 as RoundTrip<'de, R>>⟧.same v.kind w.kind
         × ⟦<Option<u64> as RoundTrip<'de, R>>⟧.same v.paid_at w.paid_at };
+
+    ghost alike = { λ human v w h i. structure_of ((codes "sentBy", (text_alike (string_bytes v.sent_by) (string_bytes w.sent_by) h.0 i))
+        ∷ ((codes "type", (⟦<u8 as Serialize>⟧.data_of (h.1 i) human))
+        ∷ ((
+          codes "paidAt",
+          (option_alike ⟦<u64 as RoundTrip<'de, R>>⟧.same (λ x. ⟦<u64 as Serialize>⟧.data_of x human)
+              (λ x3 yx3 h3 i. (⟦<u64 as Serialize>⟧.data_of (h3 i) human)) v.paid_at w.paid_at h.2 i),
+        ) ∷ []))) };
 
     ghost only = { λ s v fits. lowers_then s _ _ (λ m. (w : _) → (⟦<Parcel as Deserialize<'de, R>>⟧.reads s.human R.lends) m w
         → ⟦<String as RoundTrip<'de, R>>⟧.same v.sent_by w.sent_by × ⟦<u8 as RoundTrip<'de, R>>⟧.same v.kind w.kind
@@ -277,6 +286,16 @@ impl<'de, R: ReadSlice<'de>> RoundTrip<'de, R> for Way {
           × ⟦<u8 as RoundTrip<'de, R>>⟧.same a1 b1 × ⟦<String as RoundTrip<'de, R>>⟧.same a2 b2
       | the_way.AcrossTheSea a1 ↦ (b1 : _)
           × (w ≡ the_way.AcrossTheSea b1) × ⟦<u16 as RoundTrip<'de, R>>⟧.same a1 b1
+    ] };
+
+    ghost alike = { λ human. elim [
+      | the_way.ByAir ↦ λ w h. variant_alike (λ x. ⟦<Way as Serialize>⟧.data_of x human) w the_way.ByAir h
+          (λ i. Some (unit_variant (codes "by-air")))
+      | the_way.OverLand a1 a2 ↦ λ w h. variant_alike (λ x. ⟦<Way as Serialize>⟧.data_of x human) w
+          (the_way.OverLand h.0 h.1) h.2 (λ i. struct_variant_of (codes "over-land")
+          ((codes "daysLeft", (⟦<u8 as Serialize>⟧.data_of (h.3 i) human)) ∷ ((codes "by", (text_alike (string_bytes a2) (string_bytes h.1) h.4 i)) ∷ [])))
+      | the_way.AcrossTheSea a1 ↦ λ w h. variant_alike (λ x. ⟦<Way as Serialize>⟧.data_of x human) w (the_way.AcrossTheSea h.0) h.1
+          (λ i. newtype_variant_of (codes "sea") (⟦<u16 as Serialize>⟧.data_of (h.2 i) human))
     ] };
 
     ghost only = { λ s. let names = codes "by-air" ∷ (codes "over-land" ∷ (codes "sea" ∷ []))

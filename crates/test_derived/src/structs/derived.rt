@@ -21,6 +21,7 @@ ghost use Rattle.rmp_ends.specs.EnumEnds.{nothing_inside};
 ghost use Rattle.rmp_ends.specs.FieldEnds.{fields_inside};
 ghost use Rattle.rmp_ends.specs.LeafEnds.{number_inside, string_inside};
 ghost use Rattle.rmp_ends.specs.RowEnds.{option_inside, tuple_inside};
+ghost use Rattle.rmp_round_trip.specs.AlikeData.{option_alike, text_alike};
 ghost use Rattle.rmp_round_trip.specs.LeafRounds.{byte_row, unsigned_row_16, unsigned_row_32, unsigned_row_64, string_row, byte_other, pos_other};
 ghost use Rattle.rmp_round_trip.specs.OnlyFields.{field_only, fields_both, last_field};
 ghost use Rattle.rmp_round_trip.specs.OnlyLeaves.{byte_only, unsigned_only, string_only};
@@ -114,6 +115,9 @@ impl<'de, R: ReadSlice<'de>> RoundTrip<'de, R> for Dog {
 
     ghost same = { λ v w. ⟦<String as RoundTrip<'de, R>>⟧.same v.name w.name × ⟦<u16 as RoundTrip<'de, R>>⟧.same v.age w.age };
 
+    ghost alike = { λ human v w h i. structure_of ((codes "name", (text_alike (string_bytes v.name) (string_bytes w.name) h.0 i))
+        ∷ ((codes "age", (⟦<u16 as Serialize>⟧.data_of (h.1 i) human)) ∷ [])) };
+
     ghost only = { λ s v fits. lowers_then s _ _ (λ m. (w : _) → (⟦<Dog as Deserialize<'de, R>>⟧.reads s.human R.lends) m w
         → ⟦<String as RoundTrip<'de, R>>⟧.same v.name w.name × ⟦<u16 as RoundTrip<'de, R>>⟧.same v.age w.age)
         (structure_row s (codes "name" ∷ (codes "age" ∷ [])) _ _ refl
@@ -195,6 +199,12 @@ impl<'de, R: ReadSlice<'de>> RoundTrip<'de, R> for Opt {
         (λ x3. byte_other s x3) (λ x2 h2. (byte_row s x2 h2)) v.v fits) (fields_none s)) };
 
     ghost same = { λ v w. ⟦<Option<u8> as RoundTrip<'de, R>>⟧.same v.v w.v };
+
+    ghost alike = { λ human v w h i. structure_of ((
+      codes "v",
+      (option_alike ⟦<u8 as RoundTrip<'de, R>>⟧.same (λ x. ⟦<u8 as Serialize>⟧.data_of x human)
+          (λ x3 yx3 h3 i. (⟦<u8 as Serialize>⟧.data_of (h3 i) human)) v.v w.v h i),
+    ) ∷ []) };
 
     ghost only = { λ s v fits. lowers_then s _ _ (λ m. (w : _) → (⟦<Opt as Deserialize<'de, R>>⟧.reads s.human R.lends) m w
         → ⟦<Option<u8> as RoundTrip<'de, R>>⟧.same v.v w.v)
@@ -278,6 +288,9 @@ impl<'de, R: ReadSlice<'de>> RoundTrip<'de, R> for Point {
 
     ghost same = { λ v w. ⟦<u32 as RoundTrip<'de, R>>⟧.same v.0 w.0 × ⟦<String as RoundTrip<'de, R>>⟧.same v.1 w.1 };
 
+    ghost alike = { λ human v w h i. sequence_of ((⟦<u32 as Serialize>⟧.data_of (h.0 i) human)
+        ∷ ((text_alike (string_bytes v.1) (string_bytes w.1) h.1 i) ∷ [])) };
+
     ghost only = { λ s v fits. lowers_then s _ _ (λ m. (w : _) → (⟦<Point as Deserialize<'de, R>>⟧.reads s.human R.lends) m w
         → ⟦<u32 as RoundTrip<'de, R>>⟧.same v.0 w.0 × ⟦<String as RoundTrip<'de, R>>⟧.same v.1 w.1)
         (sequence_row s _ _ (rows_cons s _ _ (λ j. Only (⟦<u32 as Deserialize<'de, R>>⟧.reads s.human R.lends) ⟦<u32 as RoundTrip<'de, R>>⟧.same j v.0) _
@@ -348,6 +361,8 @@ impl<'de, R: ReadSlice<'de>> RoundTrip<'de, R> for Newtype {
 
     ghost same = { λ v w. ⟦<u64 as RoundTrip<'de, R>>⟧.same v.0 w.0 };
 
+    ghost alike = { λ human v w h i. wrapped_of (⟦<u64 as Serialize>⟧.data_of (h i) human) };
+
     ghost only = { λ s v fits. lowers_then s (wrapped_of (⟦<u64 as Serialize>⟧.data_of v.0 s.human))
         (λ j. Only (⟦<u64 as Deserialize<'de, R>>⟧.reads s.human R.lends) ⟦<u64 as RoundTrip<'de, R>>⟧.same j v.0) (λ m. (w : _)
         → (⟦<Newtype as Deserialize<'de, R>>⟧.reads s.human R.lends) m w
@@ -414,6 +429,8 @@ impl<'de, R: ReadSlice<'de>> RoundTrip<'de, R> for Unit {
     ghost round = { λ lent s v fits. nothing_row s };
 
     ghost same = { λ v w. ⊤ };
+
+    ghost alike = { λ human v w h i. Some unit_struct };
 
     ghost only = { λ s v fits. lowers_then s (Some unit_struct) IsNothing (λ m. (w : _) → (⟦<Unit as Deserialize<'de, R>>⟧.reads s.human R.lends) m w
         → ⊤) (nothing_row s) (λ m q w r. tt) };
@@ -498,6 +515,9 @@ impl<'de, R: ReadSlice<'de>, T: RoundTrip<'de, R>> RoundTrip<'de, R> for Counted
         (Absent ⟦<u64 as Deserialize<'de, R>>⟧.absent v.count) _ (unsigned_row_64 s v.count fits.1) (fields_none s))) };
 
     ghost same = { λ v w. T.same v.value w.value × ⟦<u64 as RoundTrip<'de, R>>⟧.same v.count w.count };
+
+    ghost alike = { λ human v w h i. structure_of ((codes "value", (T.alike human v.value w.value h.0 i))
+        ∷ ((codes "count", (⟦<u64 as Serialize>⟧.data_of (h.1 i) human)) ∷ [])) };
 
     ghost only = { λ s v fits. lowers_then s _ _ (λ m. (w : _) → (⟦<Counted<T> as Deserialize<'de, R>>⟧.reads s.human R.lends) m w
         → T.same v.value w.value × ⟦<u64 as RoundTrip<'de, R>>⟧.same v.count w.count)

@@ -11,6 +11,7 @@ ghost use Rattle.rmp_encode.specs.Trees.{structure_of};
 ghost use Rattle.rmp_ends.specs.FieldEnds.{fields_inside};
 ghost use Rattle.rmp_ends.specs.LeafEnds.{number_inside, string_inside};
 ghost use Rattle.rmp_ends.specs.RowEnds.{option_inside};
+ghost use Rattle.rmp_round_trip.specs.AlikeData.{option_alike, text_alike};
 ghost use Rattle.rmp_round_trip.specs.LeafRounds.{unsigned_row_16, string_row, text_other};
 ghost use Rattle.rmp_round_trip.specs.OnlyFields.{field_only, fields_both, last_field};
 ghost use Rattle.rmp_round_trip.specs.OnlyLeaves.{unsigned_only, string_only};
@@ -102,6 +103,9 @@ impl<'de, R: ReadSlice<'de>> RoundTrip<'de, R> for First {
         (Absent ⟦<u16 as Deserialize<'de, R>>⟧.absent v.level) _ (unsigned_row_16 s v.level fits.1) (fields_none s))) };
 
     ghost same = { λ v w. ⟦<String as RoundTrip<'de, R>>⟧.same v.place w.place × ⟦<u16 as RoundTrip<'de, R>>⟧.same v.level w.level };
+
+    ghost alike = { λ human v w h i. structure_of ((codes "place", (text_alike (string_bytes v.place) (string_bytes w.place) h.0 i))
+        ∷ ((codes "level", (⟦<u16 as Serialize>⟧.data_of (h.1 i) human)) ∷ [])) };
 
     ghost only = { λ s v fits. lowers_then s _ _ (λ m. (w : _) → (⟦<First as Deserialize<'de, R>>⟧.reads s.human R.lends) m w
         → ⟦<String as RoundTrip<'de, R>>⟧.same v.place w.place × ⟦<u16 as RoundTrip<'de, R>>⟧.same v.level w.level)
@@ -206,6 +210,14 @@ impl<'de, R: ReadSlice<'de>> RoundTrip<'de, R> for Second {
 
     ghost same = { λ v w. ⟦<u16 as RoundTrip<'de, R>>⟧.same v.level w.level × ⟦<Option<String> as RoundTrip<'de, R>>⟧.same v.note w.note
         × ⟦<String as RoundTrip<'de, R>>⟧.same v.place w.place };
+
+    ghost alike = { λ human v w h i. structure_of ((codes "level", (⟦<u16 as Serialize>⟧.data_of (h.0 i) human))
+        ∷ ((
+          codes "note",
+          (option_alike ⟦<String as RoundTrip<'de, R>>⟧.same (λ x. ⟦<String as Serialize>⟧.data_of x human)
+              (λ x3 yx3 h3 i. (text_alike (string_bytes x3) (string_bytes yx3) h3 i)) v.note w.note h.1 i),
+        )
+        ∷ ((codes "place", (text_alike (string_bytes v.place) (string_bytes w.place) h.2 i)) ∷ []))) };
 
     ghost only = { λ s v fits. lowers_then s _ _ (λ m. (w : _) → (⟦<Second as Deserialize<'de, R>>⟧.reads s.human R.lends) m w
         → ⟦<u16 as RoundTrip<'de, R>>⟧.same v.level w.level × ⟦<Option<String> as RoundTrip<'de, R>>⟧.same v.note w.note

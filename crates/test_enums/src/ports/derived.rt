@@ -11,18 +11,20 @@ ghost use Rattle.rmp_decode.specs.Variants.{OfVariant, Case, NoCase, Bare, Conte
 ghost use Rattle.rmp_encode.specs.Data.{unit_variant};
 ghost use Rattle.rmp_encode.specs.Refusals.{OfParts, OfSink};
 ghost use Rattle.rmp_encode.specs.Sizes.{one_of};
-ghost use Rattle.rmp_encode.specs.Trees.{tuple_variant_of, struct_variant_of};
+ghost use Rattle.rmp_encode.specs.Trees.{tuple_variant_of, struct_variant_of, tuple_of};
 ghost use Rattle.rmp_ends.specs.EnumEnds.{enum_inside, no_content_inside, with_content_inside};
 ghost use Rattle.rmp_ends.specs.FieldEnds.{fields_inside};
 ghost use Rattle.rmp_ends.specs.LeafEnds.{kind_inside, number_inside, char_inside, string_inside};
 ghost use Rattle.rmp_ends.specs.MapEnds.{map_inside};
 ghost use Rattle.rmp_ends.specs.RowEnds.{each_inside, option_inside, tuple_inside};
+ghost use Rattle.rmp_round_trip.specs.AlikeData.{mapping_alike, option_alike, slice_alike, text_alike, variant_alike};
+ghost use Rattle.rmp_round_trip.specs.AlikeOrder.{tied};
 ghost use Rattle.rmp_round_trip.specs.LeafRounds.{byte_row, unsigned_row_16, unsigned_row_64, signed_row_16, signed_row_32};
 ghost use Rattle.rmp_round_trip.specs.LeafRounds.{truth_row, char_row, string_row, pos_other};
 ghost use Rattle.rmp_round_trip.specs.MapRounds.{mapping_some, map_row, pairs_row};
 ghost use Rattle.rmp_round_trip.specs.OnlyFields.{AtPlace, AnyContent, content_fields, content_row, field_only, last_field, variant_both};
 ghost use Rattle.rmp_round_trip.specs.OnlyLeaves.{truth_only, byte_only, unsigned_only, signed_only, char_only, string_only};
-ghost use Rattle.rmp_round_trip.specs.OnlyMaps.{map_only};
+ghost use Rattle.rmp_round_trip.specs.OnlyMaps.{entries_only};
 ghost use Rattle.rmp_round_trip.specs.OnlyRows.{item_only, last_only, list_only, lowers_then, option_only, row_both};
 ghost use Rattle.rmp_round_trip.specs.RoundTrip.{Only};
 ghost use Rattle.rmp_round_trip.specs.Rounds.{each_some, each_row, option_some, option_row, slice_some, slice_row, tuple_row, rows_none, rows_cons};
@@ -30,6 +32,8 @@ ghost use Rattle.rmp_round_trip.specs.StructRounds.{tuple_all, tuple_variant_all
 ghost use Rattle.rmp_round_trip.specs.VariantRounds.{bare_row, tuple_variant_row, struct_variant_row, bare_other, tuple_variant_other, struct_variant_other};
 ghost use Rattle.std.proofs.Common.{refl};
 ghost use Rattle.std.proofs.lemmas.Cmp.{on_total, nat_list_cmp_total};
+ghost use Rattle.std.specs.Cmp.Lexicographic.{slice_cmp};
+ghost use Rattle.std.specs.Ordering.{nat_cmp};
 ghost use Rattle.std.specs.Prelude.{◌≡◌, ◌∷◌, [], None, Some, codes, false, ⊤, string_bytes, true, pos, negsuc};
 ghost use Rattle.test_enums.specs.declared.ports.Entry.TheVariants as the_entry;
 ghost use Rattle.test_enums.specs.declared.ports.TheConstants.{BERTHS};
@@ -434,6 +438,54 @@ impl<'de, R: ReadSlice<'de>> RoundTrip<'de, R> for Entry {
           × ⟦<u16 as RoundTrip<'de, R>>⟧.same a3 b3
     ] };
 
+    ghost alike = { λ human. elim [
+      | the_entry.Closed ↦ λ w h. variant_alike (λ x. ⟦<Entry as Serialize>⟧.data_of x human) w the_entry.Closed h
+          (λ i. Some (unit_variant (codes "Closed")))
+      | the_entry.Harbour a1 a2 a3 a4 ↦ λ w h. variant_alike (λ x. ⟦<Entry as Serialize>⟧.data_of x human) w
+          (the_entry.Harbour h.0 h.1 h.2 h.3) h.4 (λ i. struct_variant_of (codes "Harbour")
+          ((codes "name", (text_alike (string_bytes a1) (string_bytes h.0) h.5 i))
+          ∷ ((codes "berths", (⟦<u16 as Serialize>⟧.data_of (h.6 i) human))
+          ∷ ((codes "depth", (⟦<i32 as Serialize>⟧.data_of (h.7 i) human))
+          ∷ ((
+            codes "notes",
+            (slice_alike ⟦<String as RoundTrip<'de, R>>⟧.same (λ x. ⟦<String as Serialize>⟧.data_of x human)
+                (λ x10 yx10 h10 i. (text_alike (string_bytes x10) (string_bytes yx10) h10 i)) a4.items h.3.items h.8 i),
+          ) ∷ [])))))
+      | the_entry.Queue a1 a2 ↦ λ w h.
+          variant_alike (λ x. ⟦<Entry as Serialize>⟧.data_of x human) w (the_entry.Queue h.0 h.1) h.2
+          (λ i. tuple_variant_of (codes "Queue") ((slice_alike ⟦<u16 as RoundTrip<'de, R>>⟧.same (λ x. ⟦<u16 as Serialize>⟧.data_of x human)
+          (λ x11 yx11 h11 i. (⟦<u16 as Serialize>⟧.data_of (h11 i) human)) a1.items h.0.items h.3 i) ∷ ((⟦<u8 as Serialize>⟧.data_of (h.4 i) human) ∷ [])))
+      | the_entry.Convoy a1 a2 ↦ λ w h. variant_alike (λ x. ⟦<Entry as Serialize>⟧.data_of x human) w (the_entry.Convoy h.0 h.1) h.2
+          (λ i. struct_variant_of (codes "Convoy") ((
+            codes "ships",
+            (slice_alike ⟦<String as RoundTrip<'de, R>>⟧.same (λ x. ⟦<String as Serialize>⟧.data_of x human)
+                (λ x12 yx12 h12 i. (text_alike (string_bytes x12) (string_bytes yx12) h12 i)) a1.items h.0.items h.3 i),
+          )
+          ∷ ((codes "led", (⟦<bool as Serialize>⟧.data_of (h.4 i) human)) ∷ [])))
+      | the_entry.Tally a1 a2 ↦ λ w h. variant_alike
+          (λ x. ⟦<Entry as Serialize>⟧.data_of x human) w (the_entry.Tally h.0 h.1) h.2
+          (λ i. tuple_variant_of (codes "Tally") ((mapping_alike ⟦<String as RoundTrip<'de, R>>⟧.same (λ x. ⟦<String as Serialize>⟧.data_of x human)
+          (λ x13 yx13 h13 i. (text_alike (string_bytes x13) (string_bytes yx13) h13 i)) ⟦<u64 as RoundTrip<'de, R>>⟧.same
+          (λ x. ⟦<u64 as Serialize>⟧.data_of x human) (λ x14 yx14 h14 i. (⟦<u64 as Serialize>⟧.data_of (h14 i) human)) a1.entries h.0.entries h.3 i)
+          ∷ ((⟦<i16 as Serialize>⟧.data_of (h.4 i) human) ∷ [])))
+      | the_entry.Shift a1 a2 ↦ λ w h. variant_alike (λ x. ⟦<Entry as Serialize>⟧.data_of x human)
+          w (the_entry.Shift h.0 h.1) h.2 (λ i. tuple_variant_of (codes "Shift")
+          ((slice_alike ⟦<u8 as RoundTrip<'de, R>>⟧.same (λ x. ⟦<u8 as Serialize>⟧.data_of x human)
+          (λ x15 yx15 h15 i. (⟦<u8 as Serialize>⟧.data_of (h15 i) human)) a1.items h.0.items h.3 i)
+          ∷ ((slice_alike ⟦<(u8, char) as RoundTrip<'de, R>>⟧.same (λ x. ⟦<(u8, char) as Serialize>⟧.data_of x human)
+          (λ x16 yx16 h16 i. (tuple_of ((⟦<u8 as Serialize>⟧.data_of (h16.0 i) human) ∷ ((⟦<char as Serialize>⟧.data_of (h16.1 i) human) ∷ [])))) a2.items
+          h.1.items h.4 i) ∷ [])))
+      | the_entry.Canal a1 a2 a3 ↦ λ w h. variant_alike (λ x. ⟦<Entry as Serialize>⟧.data_of x human) w
+          (the_entry.Canal h.0 h.1 h.2) h.3 (λ i. struct_variant_of (codes "Canal")
+          ((codes "locked", (⟦<bool as Serialize>⟧.data_of (h.4 i) human))
+          ∷ ((
+            codes "width",
+            (option_alike ⟦<u16 as RoundTrip<'de, R>>⟧.same (λ x. ⟦<u16 as Serialize>⟧.data_of x human)
+                (λ x17 yx17 h17 i. (⟦<u16 as Serialize>⟧.data_of (h17 i) human)) a2 h.1 h.5 i),
+          )
+          ∷ ((codes "berths", (⟦<u16 as Serialize>⟧.data_of (h.6 i) human)) ∷ []))))
+    ] };
+
     ghost only = { λ s. let names = codes "Closed" ∷ (codes "Harbour"
         ∷ (codes "Queue" ∷ (codes "Convoy" ∷ (codes "Tally" ∷ (codes "Shift" ∷ (codes "Canal" ∷ []))))))
         in elim [
@@ -516,10 +568,12 @@ impl<'de, R: ReadSlice<'de>> RoundTrip<'de, R> for Entry {
               (AndThen (λ j. Only (⟦<i16 as Deserialize<'de, R>>⟧.reads s.human R.lends) ⟦<i16 as RoundTrip<'de, R>>⟧.same j a2) NoMore))))) _ _
               (λ m h. (refl, h)) (rows_cons s _ _ (λ j. Only (⟦<BTreeMap<String, u64> as Deserialize<'de, R>>⟧.reads s.human R.lends)
               ⟦<BTreeMap<String, u64> as RoundTrip<'de, R>>⟧.same j a1) _
-              (map_only (⟦<String as Deserialize<'de, R>>⟧.reads s.human R.lends) (⟦<u64 as Deserialize<'de, R>>⟧.reads s.human R.lends)
-              ⟦<String as RoundTrip<'de, R>>⟧.same ⟦<u64 as RoundTrip<'de, R>>⟧.same s _ (λ w. w.entries) ⟦<String as Ord>⟧.cmp a1.entries
-              (pairs_row s (λ x. ⟦<String as Serialize>⟧.data_of x s.human) (λ x. ⟦<u64 as Serialize>⟧.data_of x s.human) ⟦<String as Serialize>⟧.is_value
-              ⟦<u64 as Serialize>⟧.is_value (Only (⟦<String as Deserialize<'de, R>>⟧.reads s.human R.lends) ⟦<String as RoundTrip<'de, R>>⟧.same)
+              (entries_only (⟦<String as Deserialize<'de, R>>⟧.reads s.human R.lends) (⟦<u64 as Deserialize<'de, R>>⟧.reads s.human R.lends)
+              ⟦<String as RoundTrip<'de, R>>⟧.same ⟦<u64 as RoundTrip<'de, R>>⟧.same s _ (λ w. w.entries) {cmp = ⟦<String as Ord>⟧.cmp}
+              (on_total (λ x. string_bytes x) nat_list_cmp_total) (λ x y e. tied (slice_cmp nat_cmp) nat_list_cmp_total (string_bytes x) (string_bytes y) e)
+              a1.entries fits.0.1 (pairs_row s (λ x. ⟦<String as Serialize>⟧.data_of x s.human) (λ x. ⟦<u64 as Serialize>⟧.data_of x s.human)
+              ⟦<String as Serialize>⟧.is_value ⟦<u64 as Serialize>⟧.is_value
+              (Only (⟦<String as Deserialize<'de, R>>⟧.reads s.human R.lends) ⟦<String as RoundTrip<'de, R>>⟧.same)
               (Only (⟦<u64 as Deserialize<'de, R>>⟧.reads s.human R.lends) ⟦<u64 as RoundTrip<'de, R>>⟧.same)
               (λ x4 h4. (string_only s (λ w. string_bytes w) (string_bytes x4))) (λ x5 h5. (unsigned_only s 18446744073709551615 x5)) a1.entries fits.0.0))
               (rows_cons s _ _ (λ j. Only (⟦<i16 as Deserialize<'de, R>>⟧.reads s.human R.lends) ⟦<i16 as RoundTrip<'de, R>>⟧.same j a2) _

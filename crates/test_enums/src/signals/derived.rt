@@ -12,13 +12,16 @@ ghost use Rattle.rmp_decode.specs.Variants.{OfVariant, Case, NoCase, Bare, Conte
 ghost use Rattle.rmp_encode.specs.Data.{unit_variant};
 ghost use Rattle.rmp_encode.specs.Refusals.{OfParts, OfSink};
 ghost use Rattle.rmp_encode.specs.Sizes.{one_of};
-ghost use Rattle.rmp_encode.specs.Trees.{newtype_variant_of, tuple_variant_of, struct_variant_of};
+ghost use Rattle.rmp_encode.specs.Trees.{newtype_variant_of, tuple_variant_of, struct_variant_of, tuple_of};
 ghost use Rattle.rmp_ends.specs.BufferEnds.{buffer_inside};
 ghost use Rattle.rmp_ends.specs.EnumEnds.{enum_inside, no_content_inside, with_content_inside};
 ghost use Rattle.rmp_ends.specs.FieldEnds.{fields_inside};
 ghost use Rattle.rmp_ends.specs.LeafEnds.{kind_inside, number_inside, nil_inside, signed128_inside, unsigned128_inside, char_inside, string_inside};
 ghost use Rattle.rmp_ends.specs.MapEnds.{map_inside};
 ghost use Rattle.rmp_ends.specs.RowEnds.{array_inside, box_inside, each_inside, option_inside, tuple_inside};
+ghost use Rattle.rmp_round_trip.specs.AlikeData.{array_alike, bytes_alike, float64_alike, mapping_alike, option_alike};
+ghost use Rattle.rmp_round_trip.specs.AlikeData.{sequence_alike, slice_alike, text_alike, unit_alike, variant_alike};
+ghost use Rattle.rmp_round_trip.specs.AlikeOrder.{tied};
 ghost use Rattle.rmp_round_trip.specs.LeafRounds.{byte_row, unsigned_row_16, unsigned_row_32, unsigned_row_64, signed_row_16};
 ghost use Rattle.rmp_round_trip.specs.LeafRounds.{char_row, string_row, buffer_row, pos_other, text_other};
 ghost use Rattle.rmp_round_trip.specs.LeafRounds.{signed_row_32, signed_row_64, truth_row, unit_row, float64_row};
@@ -26,7 +29,7 @@ ghost use Rattle.rmp_round_trip.specs.MapRounds.{mapping_some, map_row, pairs_ro
 ghost use Rattle.rmp_round_trip.specs.OnlyFields.{AtPlace, AnyContent, content_fields, content_only, content_row, field_only, last_field, variant_both};
 ghost use Rattle.rmp_round_trip.specs.OnlyLeaves.{unit_only, truth_only, byte_only, unsigned_only, signed_only, float64_only};
 ghost use Rattle.rmp_round_trip.specs.OnlyLeaves.{unsigned128_only, signed128_only, char_only, string_only, buffer_only};
-ghost use Rattle.rmp_round_trip.specs.OnlyMaps.{map_only, set_only};
+ghost use Rattle.rmp_round_trip.specs.OnlyMaps.{entries_only, set_only};
 ghost use Rattle.rmp_round_trip.specs.OnlyRows.{array_only, item_only, last_only, list_only, lowers_then, option_only, row_both};
 ghost use Rattle.rmp_round_trip.specs.RoundTrip.{Only};
 ghost use Rattle.rmp_round_trip.specs.Rounds.{each_some, each_row, rows_map, option_some, option_row, slice_some, slice_row};
@@ -36,8 +39,11 @@ ghost use Rattle.rmp_round_trip.specs.VariantRounds.{bare_other, newtype_variant
 ghost use Rattle.rmp_round_trip.specs.VariantRounds.{newtype_variant_some, bare_row, newtype_variant_row, tuple_variant_row, struct_variant_row};
 ghost use Rattle.rmp_round_trip.specs.WideRounds.{unsigned128_row, signed128_row};
 ghost use Rattle.rmp_wire.specs.Types.{buffer_bytes};
-ghost use Rattle.std.proofs.Common.{refl};
+ghost use Rattle.std.proofs.Common.{refl, rules};
 ghost use Rattle.std.proofs.lemmas.Cmp.{on_total, nat_list_cmp_total};
+ghost use Rattle.std.specs.Cmp.Lexicographic.{slice_cmp};
+ghost use Rattle.std.specs.Cmp.Rules.{comparing};
+ghost use Rattle.std.specs.Ordering.{nat_cmp};
 ghost use Rattle.std.specs.Prelude.{◌≡◌, ◌∷◌, [], None, Some, codes, false, ⊤, string_bytes, pos, negsuc};
 ghost use Rattle.test_enums.specs.declared.signals.Signal.TheVariants as the_signal;
 
@@ -1002,6 +1008,124 @@ impl<'de, R: ReadSlice<'de>> RoundTrip<'de, R> for Signal {
       | the_signal.Farewell ↦ (w ≡ the_signal.Farewell)
     ] };
 
+    ghost alike = { λ human. elim [
+      | the_signal.Silent ↦ λ w h. variant_alike (λ x. ⟦<Signal as Serialize>⟧.data_of x human) w the_signal.Silent h
+          (λ i. Some (unit_variant (codes "Silent")))
+      | the_signal.Call a1 ↦ λ w h. variant_alike (λ x. ⟦<Signal as Serialize>⟧.data_of x human) w
+          (the_signal.Call h.0) h.1 (λ i. newtype_variant_of (codes "Call") (text_alike (string_bytes a1) (string_bytes h.0) h.2 i))
+      | the_signal.At a1 a2 ↦
+          λ w h. variant_alike (λ x. ⟦<Signal as Serialize>⟧.data_of x human) w (the_signal.At h.0 h.1) h.2
+          (λ i. tuple_variant_of (codes "At") ((⟦<i32 as Serialize>⟧.data_of (h.3 i) human) ∷ ((⟦<i32 as Serialize>⟧.data_of (h.4 i) human) ∷ [])))
+      | the_signal.Sail a1 a2 ↦ λ w h. variant_alike (λ x. ⟦<Signal as Serialize>⟧.data_of x human) w (the_signal.Sail h.0 h.1) h.2
+          (λ i. struct_variant_of (codes "Sail") ((
+            codes "course",
+            (course_rounds.alike-law R.row R.ReadSlice.own (given 0) R.Source (given 0) human a1 h.0 h.3 i),
+          )
+          ∷ ((codes "reef", (⟦<u8 as Serialize>⟧.data_of (h.4 i) human)) ∷ [])))
+      | the_signal.Anchor ↦ λ w h. variant_alike
+          (λ x. ⟦<Signal as Serialize>⟧.data_of x human) w the_signal.Anchor h (λ i. Some (unit_variant (codes "Anchor")))
+      | the_signal.Depth a1 ↦ λ w h.
+          variant_alike (λ x. ⟦<Signal as Serialize>⟧.data_of x human) w (the_signal.Depth h.0) h.1
+          (λ i. newtype_variant_of (codes "Depth") (⟦<u16 as Serialize>⟧.data_of (h.2 i) human))
+      | the_signal.Depths a1 ↦ λ w h. variant_alike
+          (λ x. ⟦<Signal as Serialize>⟧.data_of x human) w (the_signal.Depths h.0) h.1
+          (λ i. newtype_variant_of (codes "Depths") (array_alike ⟦<u16 as RoundTrip<'de, R>>⟧.same (λ x. ⟦<u16 as Serialize>⟧.data_of x human)
+          (λ x14 yx14 h14 i. (⟦<u16 as Serialize>⟧.data_of (h14 i) human)) a1 h.0 h.2 i))
+      | the_signal.Spotted a1 ↦ λ w h. variant_alike
+          (λ x. ⟦<Signal as Serialize>⟧.data_of x human) w (the_signal.Spotted h.0) h.1
+          (λ i. newtype_variant_of (codes "Spotted") (spot_rounds.alike-law R.row R.ReadSlice.own (given 0) R.Source (given 0) human a1 h.0 h.2 i))
+      | the_signal.Crew a1 ↦ λ w h. variant_alike (λ x. ⟦<Signal as Serialize>⟧.data_of x human) w (the_signal.Crew h.0) h.1
+          (λ i. newtype_variant_of (codes "Crew") (slice_alike ⟦<String as RoundTrip<'de, R>>⟧.same (λ x. ⟦<String as Serialize>⟧.data_of x human)
+          (λ x15 yx15 h15 i. (text_alike (string_bytes x15) (string_bytes yx15) h15 i)) a1.items h.0.items h.2 i))
+      | the_signal.Meet a1 a2 a3 ↦ λ w h.
+          variant_alike (λ x. ⟦<Signal as Serialize>⟧.data_of x human) w (the_signal.Meet h.0 h.1 h.2) h.3
+          (λ i. struct_variant_of (codes "Meet") ((
+            codes "spot",
+            (spot_rounds.alike-law R.row R.ReadSlice.own (given 0) R.Source (given 0) human a1 h.0 h.4 i),
+          )
+          ∷ ((codes "hour", (⟦<u8 as Serialize>⟧.data_of (h.5 i) human))
+          ∷ ((
+            codes "name",
+            (option_alike ⟦<String as RoundTrip<'de, R>>⟧.same (λ x. ⟦<String as Serialize>⟧.data_of x human)
+                (λ x16 yx16 h16 i. (text_alike (string_bytes x16) (string_bytes yx16) h16 i)) a3 h.2 h.6 i),
+          ) ∷ []))))
+      | the_signal.Distress ↦ λ w h. variant_alike
+          (λ x. ⟦<Signal as Serialize>⟧.data_of x human) w the_signal.Distress h (λ i. Some (unit_variant (codes "Distress")))
+      | the_signal.Heading a1 ↦
+          λ w h. variant_alike (λ x. ⟦<Signal as Serialize>⟧.data_of x human) w (the_signal.Heading h.0) h.1
+          (λ i. newtype_variant_of (codes "Heading") (⟦<i16 as Serialize>⟧.data_of (h.2 i) human))
+      | the_signal.Weather a1 a2 ↦ λ w h. variant_alike
+          (λ x. ⟦<Signal as Serialize>⟧.data_of x human) w (the_signal.Weather h.0 h.1) h.2
+          (λ i. tuple_variant_of (codes "Weather") ((float64_alike a1.0 h.0.0 h.3 i) ∷ ((⟦<char as Serialize>⟧.data_of (h.4 i) human) ∷ [])))
+      | the_signal.Cargo a1 ↦ λ w h. variant_alike (λ x. ⟦<Signal as Serialize>⟧.data_of x human) w (the_signal.Cargo h.0) h.1
+          (λ i. newtype_variant_of (codes "Cargo") (mapping_alike ⟦<String as RoundTrip<'de, R>>⟧.same (λ x. ⟦<String as Serialize>⟧.data_of x human)
+          (λ x17 yx17 h17 i. (text_alike (string_bytes x17) (string_bytes yx17) h17 i)) ⟦<u64 as RoundTrip<'de, R>>⟧.same
+          (λ x. ⟦<u64 as Serialize>⟧.data_of x human) (λ x18 yx18 h18 i. (⟦<u64 as Serialize>⟧.data_of (h18 i) human)) a1.entries h.0.entries h.2 i))
+      | the_signal.Ports a1 ↦ λ w h. variant_alike (λ x. ⟦<Signal as Serialize>⟧.data_of x human) w (the_signal.Ports h.0) h.1
+          (λ i. newtype_variant_of (codes "Ports") (sequence_alike ⟦<u16 as RoundTrip<'de, R>>⟧.same (λ x. ⟦<u16 as Serialize>⟧.data_of x human)
+          (λ x19 yx19 h19 i. (⟦<u16 as Serialize>⟧.data_of (h19 i) human)) a1.keys h.0.keys h.2 i))
+      | the_signal.Chart a1 a2 a3 ↦ λ w h. variant_alike
+          (λ x. ⟦<Signal as Serialize>⟧.data_of x human) w (the_signal.Chart h.0 h.1 h.2) h.3
+          (λ i. struct_variant_of (codes "Chart") ((codes "name", (text_alike (string_bytes a1) (string_bytes h.0) h.4 i))
+          ∷ ((codes "seal", (⟦<u128 as Serialize>⟧.data_of (h.5 i) human))
+          ∷ ((codes "chart", (bytes_alike (buffer_bytes a3) (buffer_bytes h.2) h.6 i)) ∷ []))))
+      | the_signal.Answer a1 ↦ λ w h. variant_alike
+          (λ x. ⟦<Signal as Serialize>⟧.data_of x human) w (the_signal.Answer h.0) h.1
+          (λ i. newtype_variant_of (codes "Answer") (⟦<bool as Serialize>⟧.data_of (h.2 i) human))
+      | the_signal.Course a1 ↦ λ w h. variant_alike
+          (λ x. ⟦<Signal as Serialize>⟧.data_of x human) w (the_signal.Course h.0) h.1
+          (λ i. newtype_variant_of (codes "Course") (course_rounds.alike-law R.row R.ReadSlice.own (given 0) R.Source (given 0) human a1 h.0 h.2 i))
+      | the_signal.Pair a1 ↦ λ w h. variant_alike (λ x. ⟦<Signal as Serialize>⟧.data_of x human) w (the_signal.Pair h.0) h.1
+          (λ i. newtype_variant_of (codes "Pair") (tuple_of ((⟦<u8 as Serialize>⟧.data_of (h.2.0 i) human)
+          ∷ ((text_alike (string_bytes a1.1) (string_bytes h.0.1) h.2.1 i) ∷ []))))
+      | the_signal.Maybe a1 ↦ λ w h. variant_alike
+          (λ x. ⟦<Signal as Serialize>⟧.data_of x human) w (the_signal.Maybe h.0) h.1
+          (λ i. newtype_variant_of (codes "Maybe") (option_alike ⟦<u32 as RoundTrip<'de, R>>⟧.same (λ x. ⟦<u32 as Serialize>⟧.data_of x human)
+          (λ x20 yx20 h20 i. (⟦<u32 as Serialize>⟧.data_of (h20 i) human)) a1 h.0 h.2 i))
+      | the_signal.Pilot a1 ↦ λ w h. variant_alike
+          (λ x. ⟦<Signal as Serialize>⟧.data_of x human) w (the_signal.Pilot h.0) h.1
+          (λ i. struct_variant_of (codes "Pilot") ((codes "name", (text_alike (string_bytes a1) (string_bytes h.0) h.2 i)) ∷ []))
+      | the_signal.Quarantine ↦
+          λ w h. variant_alike (λ x. ⟦<Signal as Serialize>⟧.data_of x human) w the_signal.Quarantine h (λ i. Some (unit_variant (codes "Quarantine")))
+      | the_signal.Tug a1 a2 a3 a4 ↦ λ w h. variant_alike (λ x. ⟦<Signal as Serialize>⟧.data_of x human) w (the_signal.Tug h.0 h.1 h.2 h.3) h.4
+          (λ i. tuple_variant_of (codes "Tug") ((⟦<u8 as Serialize>⟧.data_of (h.5 i) human)
+          ∷ ((⟦<u16 as Serialize>⟧.data_of (h.6 i) human) ∷ ((⟦<u32 as Serialize>⟧.data_of (h.7 i) human)
+          ∷ ((⟦<u64 as Serialize>⟧.data_of (h.8 i) human) ∷ [])))))
+      | the_signal.Debt a1 ↦ λ w h. variant_alike (λ x. ⟦<Signal as Serialize>⟧.data_of x human)
+          w (the_signal.Debt h.0) h.1 (λ i. newtype_variant_of (codes "Debt") (⟦<i128 as Serialize>⟧.data_of (h.2 i) human))
+      | the_signal.Nothing a1 ↦ λ w h.
+          variant_alike (λ x. ⟦<Signal as Serialize>⟧.data_of x human) w (the_signal.Nothing h.0) h.1
+          (λ i. newtype_variant_of (codes "Nothing") (unit_alike i))
+      | the_signal.Lights a1 a2 a3 a4 ↦ λ w h. variant_alike
+          (λ x. ⟦<Signal as Serialize>⟧.data_of x human) w (the_signal.Lights h.0 h.1 h.2 h.3) h.4
+          (λ i. struct_variant_of (codes "Lights") ((codes "left", (⟦<u8 as Serialize>⟧.data_of (h.5 i) human))
+          ∷ ((codes "right", (⟦<u8 as Serialize>⟧.data_of (h.6 i) human))
+          ∷ ((
+            codes "top",
+            (array_alike ⟦<u8 as RoundTrip<'de, R>>⟧.same (λ x. ⟦<u8 as Serialize>⟧.data_of x human)
+                (λ x21 yx21 h21 i. (⟦<u8 as Serialize>⟧.data_of (h21 i) human)) a3 h.2 h.7 i),
+          )
+          ∷ ((codes "lit", (⟦<bool as Serialize>⟧.data_of (h.8 i) human)) ∷ [])))))
+      | the_signal.Flags a1 ↦ λ w h. variant_alike
+          (λ x. ⟦<Signal as Serialize>⟧.data_of x human) w (the_signal.Flags h.0) h.1
+          (λ i. newtype_variant_of (codes "Flags") (slice_alike ⟦<(u8, char) as RoundTrip<'de, R>>⟧.same (λ x. ⟦<(u8, char) as Serialize>⟧.data_of x human)
+          (λ x22 yx22 h22 i. (tuple_of ((⟦<u8 as Serialize>⟧.data_of (h22.0 i) human) ∷ ((⟦<char as Serialize>⟧.data_of (h22.1 i) human) ∷ [])))) a1.items
+          h.0.items h.2 i))
+      | the_signal.Towed a1 a2 ↦ λ w h. variant_alike (λ x. ⟦<Signal as Serialize>⟧.data_of x human) w (the_signal.Towed h.0 h.1) h.2
+          (λ i. struct_variant_of (codes "Towed") ((
+            codes "by",
+            (spot_rounds.alike-law R.row R.ReadSlice.own (given 0) R.Source (given 0) human a1.value h.0.value h.3 i),
+          )
+          ∷ ((codes "since", (⟦<i64 as Serialize>⟧.data_of (h.4 i) human)) ∷ [])))
+      | the_signal.Fog a1 a2 ↦ λ w h. variant_alike
+          (λ x. ⟦<Signal as Serialize>⟧.data_of x human) w (the_signal.Fog h.0 h.1) h.2
+          (λ i. tuple_variant_of (codes "Fog") ((option_alike ⟦<(u16, u16) as RoundTrip<'de, R>>⟧.same (λ x. ⟦<(u16, u16) as Serialize>⟧.data_of x human)
+          (λ x23 yx23 h23 i. (tuple_of ((⟦<u16 as Serialize>⟧.data_of (h23.0 i) human) ∷ ((⟦<u16 as Serialize>⟧.data_of (h23.1 i) human) ∷ [])))) a1 h.0 h.3
+          i) ∷ ((⟦<bool as Serialize>⟧.data_of (h.4 i) human) ∷ [])))
+      | the_signal.Farewell ↦ λ w h. variant_alike
+          (λ x. ⟦<Signal as Serialize>⟧.data_of x human) w the_signal.Farewell h (λ i. Some (unit_variant (codes "Farewell")))
+    ] };
+
     ghost only = { λ s. let names = codes "Silent" ∷ (codes "Call"
         ∷ (codes "At" ∷ (codes "Sail" ∷ (codes "Anchor" ∷ (codes "Depth"
         ∷ (codes "Depths" ∷ (codes "Spotted" ∷ (codes "Crew"
@@ -1147,10 +1271,12 @@ impl<'de, R: ReadSlice<'de>> RoundTrip<'de, R> for Signal {
               (AtPlace 13 (Content (λ j. Only (⟦<BTreeMap<String, u64> as Deserialize<'de, R>>⟧.reads s.human R.lends)
               ⟦<BTreeMap<String, u64> as RoundTrip<'de, R>>⟧.same j a1))) _
               (λ j. Only (⟦<BTreeMap<String, u64> as Deserialize<'de, R>>⟧.reads s.human R.lends) ⟦<BTreeMap<String, u64> as RoundTrip<'de, R>>⟧.same j a1)
-              (λ m h. (refl, h)) (map_only (⟦<String as Deserialize<'de, R>>⟧.reads s.human R.lends) (⟦<u64 as Deserialize<'de, R>>⟧.reads s.human R.lends)
-              ⟦<String as RoundTrip<'de, R>>⟧.same ⟦<u64 as RoundTrip<'de, R>>⟧.same s _ (λ w. w.entries) ⟦<String as Ord>⟧.cmp a1.entries
-              (pairs_row s (λ x. ⟦<String as Serialize>⟧.data_of x s.human) (λ x. ⟦<u64 as Serialize>⟧.data_of x s.human) ⟦<String as Serialize>⟧.is_value
-              ⟦<u64 as Serialize>⟧.is_value (Only (⟦<String as Deserialize<'de, R>>⟧.reads s.human R.lends) ⟦<String as RoundTrip<'de, R>>⟧.same)
+              (λ m h. (refl, h)) (entries_only (⟦<String as Deserialize<'de, R>>⟧.reads s.human R.lends) (⟦<u64 as Deserialize<'de, R>>⟧.reads s.human R.lends)
+              ⟦<String as RoundTrip<'de, R>>⟧.same ⟦<u64 as RoundTrip<'de, R>>⟧.same s _ (λ w. w.entries) {cmp = ⟦<String as Ord>⟧.cmp}
+              (on_total (λ x. string_bytes x) nat_list_cmp_total) (λ x y e. tied (slice_cmp nat_cmp) nat_list_cmp_total (string_bytes x) (string_bytes y) e)
+              a1.entries fits.1 (pairs_row s (λ x. ⟦<String as Serialize>⟧.data_of x s.human) (λ x. ⟦<u64 as Serialize>⟧.data_of x s.human)
+              ⟦<String as Serialize>⟧.is_value ⟦<u64 as Serialize>⟧.is_value
+              (Only (⟦<String as Deserialize<'de, R>>⟧.reads s.human R.lends) ⟦<String as RoundTrip<'de, R>>⟧.same)
               (Only (⟦<u64 as Deserialize<'de, R>>⟧.reads s.human R.lends) ⟦<u64 as RoundTrip<'de, R>>⟧.same)
               (λ x5 h5. (string_only s (λ w. string_bytes w) (string_bytes x5))) (λ x6 h6. (unsigned_only s 18446744073709551615 x6)) a1.entries fits.0)))
               (λ m q w r. variant_both names 13 _ _ _ m q r (λ c a b. (
@@ -1164,7 +1290,8 @@ impl<'de, R: ReadSlice<'de>> RoundTrip<'de, R> for Signal {
               (newtype_variant_row s names (codes "Ports") 14 refl
               (AtPlace 14 (Content (λ j. Only (⟦<BTreeSet<u16> as Deserialize<'de, R>>⟧.reads s.human R.lends) ⟦<BTreeSet<u16> as RoundTrip<'de, R>>⟧.same j a1)))
               _ (λ j. Only (⟦<BTreeSet<u16> as Deserialize<'de, R>>⟧.reads s.human R.lends) ⟦<BTreeSet<u16> as RoundTrip<'de, R>>⟧.same j a1) (λ m h. (refl, h))
-              (set_only s _ (λ w. w.keys) ⟦<u16 as Ord>⟧.cmp (⟦<u16 as Deserialize<'de, R>>⟧.reads s.human R.lends) ⟦<u16 as RoundTrip<'de, R>>⟧.same a1.keys
+              (set_only s _ (λ w. w.keys) {cmp = ⟦<u16 as Ord>⟧.cmp} (Prim.search (comparing, rules)) (⟦<u16 as Deserialize<'de, R>>⟧.reads s.human R.lends)
+              ⟦<u16 as RoundTrip<'de, R>>⟧.same (λ x y e. tied ⟦<u16 as Ord>⟧.cmp (Prim.search (comparing, rules)) x y e) a1.keys fits.1
               (sequence_row s _ (λ ms. ReadsEach (Only (⟦<u16 as Deserialize<'de, R>>⟧.reads s.human R.lends) ⟦<u16 as RoundTrip<'de, R>>⟧.same) ms a1.keys)
               (each_row s (λ x. ⟦<u16 as Serialize>⟧.data_of x s.human) ⟦<u16 as Serialize>⟧.is_value
               (Only (⟦<u16 as Deserialize<'de, R>>⟧.reads s.human R.lends) ⟦<u16 as RoundTrip<'de, R>>⟧.same) (λ x7 h7. (unsigned_only s 65535 x7)) a1.keys

@@ -1,20 +1,17 @@
 //! How the types of dirs.rt are written and read. Written by tools/derive.py.
 //!
-//! Sum of Dir: 5f2e021a.
-//! Sum of Menu: 3a00972c.
+//! Sum of Dir: 3b740059.
 ghost use Rattle.rmp_decode.specs.Law.{Lawful};
 ghost use Rattle.rmp_decode.specs.Maps.{ReadsEntries};
-ghost use Rattle.rmp_decode.specs.Read.{IsUnsigned, IsSigned, IsRaw, IsChar};
+ghost use Rattle.rmp_decode.specs.Read.{IsSigned, IsChar};
+ghost use Rattle.rmp_encode.specs.Refusals.{OfLength};
 ghost use Rattle.std.specs.Ordering.{nat_cmp};
-ghost use Rattle.std.specs.Prelude.{None, Some, string_bytes, pos, negsuc};
-ghost use Rattle.std.specs.String.{string_cmp};
+ghost use Rattle.std.specs.Prelude.{None, Some, false, ⊤, pos, negsuc};
 ghost use Rattle.test_json.specs.DirLevels.{IsDir, dir_data, dir_fits};
 ghost use Rattle.test_json.specs.DirRounds.{SameDir, dir_some, dir_round, dir_only, dir_other};
-ghost use Rattle.test_json.specs.MenuLevels.{IsMenu, menu_data, menu_fits, MenuPartRead};
-ghost use Rattle.test_json.specs.MenuRounds.{SameMenu, menu_some, menu_round, menu_only, menu_other};
 
-use super::{BTreeMap, Dir, Menu};
-use rmp_decode::{Deserialize, Deserializer, ReadContent, ReadPlaces, Slices};
+use super::{BTreeMap, Dir};
+use rmp_decode::{Deserialize, Deserializer, ReadPlaces, Slices};
 use rmp_encode::{Serialize, Serializer};
 use rmp_round_trip::{NeverNil, RoundTrip};
 use rmp_wire::config::SerializerConfig;
@@ -28,21 +25,8 @@ fn read_i64<R: Source, C: SerializerConfig>(
     de.deserialize_i64()
 }
 
-fn read_u8<R: Source, C: SerializerConfig>(
-    de: &mut Deserializer<R, C>,
-) -> Result<u8, rmp_decode::Error>
-    ensures law { Lawful R.Source (λ m v. IsUnsigned 255 m v) de.old de.new result }
-{
-    de.deserialize_u8()
-}
-
 // How leaves are read. A function that calls itself may have no bound that names a lifetime, so it has this one, and is called with `Slices`.
 trait ReadLeaves<R: Source> {
-    fn read_string<C: SerializerConfig>(
-        de: &mut Deserializer<R, C>,
-    ) -> Result<String, rmp_decode::Error>
-        ensures law { Lawful R.Source (λ m v. IsRaw m (string_bytes v)) de.old de.new result };
-
     fn read_char<C: SerializerConfig>(
         de: &mut Deserializer<R, C>,
     ) -> Result<char, rmp_decode::Error>
@@ -50,12 +34,6 @@ trait ReadLeaves<R: Source> {
 }
 
 impl<'de, R: ReadSlice<'de>> ReadLeaves<R> for Slices<'de> {
-    fn read_string<C: SerializerConfig>(
-        de: &mut Deserializer<R, C>,
-    ) -> Result<String, rmp_decode::Error> {
-        Deserialize::deserialize(de)
-    }
-
     fn read_char<C: SerializerConfig>(
         de: &mut Deserializer<R, C>,
     ) -> Result<char, rmp_decode::Error> {
@@ -67,6 +45,10 @@ impl Serialize for Dir {
     ghost data_of = { λ v human. dir_data v };
 
     ghost is_value = { λ v. dir_fits v };
+
+    ghost takes_memory = { λ s. false };
+
+    ghost refuses = { λ _. OfLength ⊤ };
 
     #[cycle(dir_writing)]
     fn serialize<W: Sink, C: SerializerConfig>(
@@ -97,7 +79,7 @@ fn read_dir<R: Source, C: SerializerConfig, P: ReadPlaces<R> + ReadLeaves<R>>(
         Err(e) => return Err(e),
     };
     let mut slot0: Option<i64> = None;
-    let mut slot1: Option<BTreeMap<String, Dir>> = None;
+    let mut slot1: Option<BTreeMap<char, Dir>> = None;
     loop {
         match fields.next_field_by::<P>() {
             Ok(Some(0)) => match fields.next_value_with(read_i64::<R, C>) {
@@ -105,9 +87,9 @@ fn read_dir<R: Source, C: SerializerConfig, P: ReadPlaces<R> + ReadLeaves<R>>(
                 Err(e) => return Err(e),
             },
             Ok(Some(_)) => match fields.next_value_with(
-                |de: &mut Deserializer<R, C>| -> Result<BTreeMap<String, Dir>, rmp_decode::Error>
-                    ensures law { Lawful R.Source (λ m v. ReadsEntries string_cmp (λ j q. IsRaw j (string_bytes q)) IsDir v.entries m) de.old de.new result }
-                { read_dir_string_map::<R, C, P>(de) },
+                |de: &mut Deserializer<R, C>| -> Result<BTreeMap<char, Dir>, rmp_decode::Error>
+                    ensures law { Lawful R.Source (λ m v. ReadsEntries nat_cmp (λ j q. IsChar j q) IsDir v.entries m) de.old de.new result }
+                { read_dir_char_map::<R, C, P>(de) },
             ) {
                 Ok(value) => slot1 = Some(value),
                 Err(e) => return Err(e),
@@ -135,17 +117,17 @@ fn read_dir<R: Source, C: SerializerConfig, P: ReadPlaces<R> + ReadLeaves<R>>(
 
 // Reads them by their keys.
 #[cycle(dir_reading)]
-fn read_dir_string_map<R: Source, C: SerializerConfig, P: ReadPlaces<R> + ReadLeaves<R>>(
+fn read_dir_char_map<R: Source, C: SerializerConfig, P: ReadPlaces<R> + ReadLeaves<R>>(
     de: &mut Deserializer<R, C>,
-) -> Result<BTreeMap<String, Dir>, rmp_decode::Error>
-    ensures law { Lawful R.Source (λ m v. ReadsEntries string_cmp (λ j q. IsRaw j (string_bytes q)) IsDir v.entries m) de.old de.new result }
+) -> Result<BTreeMap<char, Dir>, rmp_decode::Error>
+    ensures law { Lawful R.Source (λ m v. ReadsEntries nat_cmp (λ j q. IsChar j q) IsDir v.entries m) de.old de.new result }
 {
     let mut entries = BTreeMap::new(de.alloc());
     let mut pairs = de.deserialize_map()?;
     while let Some(key) = pairs.next_key_with(
-        |de: &mut Deserializer<R, C>| -> Result<String, rmp_decode::Error>
-            ensures law { Lawful R.Source (λ m v. IsRaw m (string_bytes v)) de.old de.new result }
-        { P::read_string::<C>(de) },
+        |de: &mut Deserializer<R, C>| -> Result<char, rmp_decode::Error>
+            ensures law { Lawful R.Source (λ m v. IsChar m v) de.old de.new result }
+        { P::read_char::<C>(de) },
     )? {
         let value = pairs.next_value_with(
             |de: &mut Deserializer<R, C>| -> Result<Dir, rmp_decode::Error>
@@ -181,174 +163,11 @@ impl<'de, R: ReadSlice<'de>> RoundTrip<'de, R> for Dir {
 
     ghost same = { SameDir };
 
+    ghost alike = { λ human v w h. h };
+
     ghost only = { λ s v fits. dir_only s v fits };
 }
 
 impl NeverNil for Dir {
     ghost never_nil = { λ s v. dir_other s v };
-}
-
-impl Serialize for Menu {
-    ghost data_of = { λ v human. menu_data v };
-
-    ghost is_value = { λ v. menu_fits v };
-
-    #[cycle(menu_writing)]
-    fn serialize<W: Sink, C: SerializerConfig>(
-        &self,
-        se: &mut Serializer<W, C>,
-    ) -> Result<(), rmp_encode::Error> {
-        match self {
-            Menu::Entry(value) => se.serialize_newtype_variant("Menu", 0, "Entry", value),
-            Menu::Part { name, menus } => {
-                let mut fields = se.serialize_struct_variant("Menu", 1, "Part", 2)?;
-                fields.serialize_field("name", name)?;
-                fields.serialize_field("menus", menus)?;
-                fields.end()
-            }
-        }
-    }
-
-    #[tactic(auto, using(crate::proofs::MenuLevels::menu_no_byte))]
-    fn as_u8(&self, _human: bool) -> Option<u8> {
-        match self {
-            Menu::Entry(_) => None,
-            Menu::Part { .. } => None,
-        }
-    }
-}
-
-// Reads a `Menu`.
-#[cycle(menu_reading)]
-fn read_menu<R: Source, C: SerializerConfig, P: ReadContent<R> + ReadPlaces<R> + ReadLeaves<R>>(
-    de: &mut Deserializer<R, C>,
-) -> Result<Menu, rmp_decode::Error>
-    ensures law { Lawful R.Source IsMenu de.old de.new result }
-{
-    match de.deserialize_enum_by::<P>(&["Entry", "Part"]) {
-        Ok((0, variant)) => match variant.newtype_variant_with(read_u8::<R, C>) {
-            Ok(value) => Ok(Menu::Entry(value)),
-            Err(e) => Err(e),
-        },
-        Ok((_, variant)) => match variant.newtype_variant_with(
-            |de: &mut Deserializer<R, C>| -> Result<
-                (String, BTreeMap<char, Menu>),
-                rmp_decode::Error,
-            >
-                ensures law { Lawful R.Source (λ m v. MenuPartRead IsMenu m v) de.old de.new result }
-            { read_menu_part_fields::<R, C, P>(de) },
-        ) {
-            Ok((name, menus)) => Ok(Menu::Part { name, menus }),
-            Err(e) => Err(e),
-        },
-        Err(e) => Err(e),
-    }
-}
-
-// Reads the fields of `Part`.
-#[cycle(menu_reading)]
-fn read_menu_part_fields<
-    R: Source,
-    C: SerializerConfig,
-    P: ReadContent<R> + ReadPlaces<R> + ReadLeaves<R>,
->(de: &mut Deserializer<R, C>) -> Result<(String, BTreeMap<char, Menu>), rmp_decode::Error>
-    ensures law { Lawful R.Source (λ m v. MenuPartRead IsMenu m v) de.old de.new result }
-{
-    let mut fields = match de.deserialize_struct("Part", &["name", "menus"]) {
-        Ok(fields) => fields,
-        Err(e) => return Err(e),
-    };
-    let mut slot0: Option<String> = None;
-    let mut slot1: Option<BTreeMap<char, Menu>> = None;
-    loop {
-        match fields.next_field_by::<P>() {
-            Ok(Some(0)) => match fields.next_value_with(
-                |de: &mut Deserializer<R, C>| -> Result<String, rmp_decode::Error>
-                    ensures law { Lawful R.Source (λ m v. IsRaw m (string_bytes v)) de.old de.new result }
-                { P::read_string::<C>(de) },
-            ) {
-                Ok(value) => slot0 = Some(value),
-                Err(e) => return Err(e),
-            },
-            Ok(Some(_)) => match fields.next_value_with(
-                |de: &mut Deserializer<R, C>| -> Result<BTreeMap<char, Menu>, rmp_decode::Error>
-                    ensures law { Lawful R.Source (λ m v. ReadsEntries nat_cmp (λ j q. IsChar j q) IsMenu v.entries m) de.old de.new result }
-                { read_menu_char_map::<R, C, P>(de) },
-            ) {
-                Ok(value) => slot1 = Some(value),
-                Err(e) => return Err(e),
-            },
-            Ok(None) => break,
-            Err(e) => return Err(e),
-        }
-    }
-    let value0 = match fields.given_or("name", slot0, None) {
-        Ok(value) => value,
-        Err(e) => return Err(e),
-    };
-    let value1 = match fields.given_or("menus", slot1, None) {
-        Ok(value) => value,
-        Err(e) => return Err(e),
-    };
-    match fields.end() {
-        Ok(()) => Ok((value0, value1)),
-        Err(e) => Err(e),
-    }
-}
-
-// Reads them by their keys.
-#[cycle(menu_reading)]
-fn read_menu_char_map<
-    R: Source,
-    C: SerializerConfig,
-    P: ReadContent<R> + ReadPlaces<R> + ReadLeaves<R>,
->(de: &mut Deserializer<R, C>) -> Result<BTreeMap<char, Menu>, rmp_decode::Error>
-    ensures law { Lawful R.Source (λ m v. ReadsEntries nat_cmp (λ j q. IsChar j q) IsMenu v.entries m) de.old de.new result }
-{
-    let mut entries = BTreeMap::new(de.alloc());
-    let mut pairs = de.deserialize_map()?;
-    while let Some(key) = pairs.next_key_with(
-        |de: &mut Deserializer<R, C>| -> Result<char, rmp_decode::Error>
-            ensures law { Lawful R.Source (λ m v. IsChar m v) de.old de.new result }
-        { P::read_char::<C>(de) },
-    )? {
-        let value = pairs.next_value_with(
-            |de: &mut Deserializer<R, C>| -> Result<Menu, rmp_decode::Error>
-                ensures law { Lawful R.Source (λ m v. IsMenu m v) de.old de.new result }
-            { read_menu::<R, C, P>(de) },
-        )?;
-        drop(entries.insert(key, value)?);
-    }
-    pairs.end()?;
-    Ok(entries)
-}
-
-impl<'de, R: ReadSlice<'de>> Deserialize<'de, R> for Menu {
-    ghost reads = { λ human lends. IsMenu };
-
-    ghost absent = { None };
-
-    fn deserialize<C: SerializerConfig>(
-        de: &mut Deserializer<R, C>,
-    ) -> Result<Menu, rmp_decode::Error> {
-        read_menu::<R, C, Slices<'de>>(de)
-    }
-
-    fn missing() -> Option<Menu> {
-        None
-    }
-}
-
-impl<'de, R: ReadSlice<'de>> RoundTrip<'de, R> for Menu {
-    ghost has_data = { λ human v. menu_some v };
-
-    ghost round = { λ lent s v fits. menu_round s v fits };
-
-    ghost same = { SameMenu };
-
-    ghost only = { λ s v fits. menu_only s v fits };
-}
-
-impl NeverNil for Menu {
-    ghost never_nil = { λ s v. menu_other s v };
 }

@@ -4,9 +4,11 @@
 ghost use Rattle.rmp_decode.specs.Law.{Lawful};
 ghost use Rattle.rmp_decode.specs.Maps.{ReadsEntries};
 ghost use Rattle.rmp_decode.specs.Read.{IsSigned, IsRaw};
+ghost use Rattle.rmp_encode.specs.Refusals.{OfLength};
+ghost use Rattle.rmp_encode.specs.Trees.{forces_slices};
 ghost use Rattle.rmp_recursive.specs.Parts.{Row};
 ghost use Rattle.rmp_wire.specs.Msg.{truth};
-ghost use Rattle.std.specs.Prelude.{◌≡◌, None, Some, string_bytes, pos, negsuc};
+ghost use Rattle.std.specs.Prelude.{◌≡◌, None, Some, ⊤, string_bytes, pos, negsuc};
 ghost use Rattle.std.specs.String.{string_cmp};
 ghost use Rattle.test_json.specs.JsonLevels.{IsJson, json_data, json_fits};
 ghost use Rattle.test_json.specs.JsonRounds.{SameJson, json_some, json_round, json_only, json_other};
@@ -54,6 +56,10 @@ impl Serialize for Json {
     ghost data_of = { λ v human. json_data v };
 
     ghost is_value = { λ v. json_fits v };
+
+    ghost takes_memory = { λ s. forces_slices s.bytes };
+
+    ghost refuses = { λ _. OfLength ⊤ };
 
     #[tactic(auto, unfolding(rmp_encode::specs::Data::lower))]
     #[cycle(json_writing)]
@@ -199,6 +205,8 @@ impl<'de, R: ReadSlice<'de>> RoundTrip<'de, R> for Json {
     ghost round = { λ lent s v fits. json_round s v fits };
 
     ghost same = { SameJson };
+
+    ghost alike = { λ human v w h. h };
 
     ghost only = { λ s v fits. json_only s v fits };
 }

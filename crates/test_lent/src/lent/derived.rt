@@ -21,6 +21,7 @@ ghost use Rattle.rmp_ends.specs.EnumEnds.{enum_inside, no_content_inside, with_c
 ghost use Rattle.rmp_ends.specs.FieldEnds.{fields_inside};
 ghost use Rattle.rmp_ends.specs.LeafEnds.{number_inside, str_inside, bytes_inside};
 ghost use Rattle.rmp_ends.specs.RowEnds.{each_inside, option_inside, tuple_inside};
+ghost use Rattle.rmp_round_trip.specs.AlikeData.{bytes_alike, option_alike, slice_alike, text_alike, variant_alike};
 ghost use Rattle.rmp_round_trip.specs.LeafRounds.{byte_row, unsigned_row_32, signed_row_16, str_row, bytes_row, text_other};
 ghost use Rattle.rmp_round_trip.specs.OnlyFields.{AtPlace, AnyContent, content_fields, content_only, content_row};
 ghost use Rattle.rmp_round_trip.specs.OnlyFields.{field_only, fields_both, last_field, variant_both};
@@ -192,6 +193,19 @@ impl<'de, R: ReadSlice<'de>> RoundTrip<'de, R> for Line<'de> {
     ghost same = { λ v w. ⟦<u8 as RoundTrip<'de, R>>⟧.same v.level w.level × ⟦<&'de str as RoundTrip<'de, R>>⟧.same v.text w.text
         × ⟦<Vec<&'de str> as RoundTrip<'de, R>>⟧.same v.tags w.tags × ⟦<Option<&'de str> as RoundTrip<'de, R>>⟧.same v.source w.source };
 
+    ghost alike = { λ human v w h i. structure_of ((codes "level", (⟦<u8 as Serialize>⟧.data_of (h.0 i) human))
+        ∷ ((codes "text", (text_alike v.text.now w.text.now h.1 i))
+        ∷ ((
+          codes "tags",
+          (slice_alike ⟦<&'de str as RoundTrip<'de, R>>⟧.same (λ x. ⟦<&'de str as Serialize>⟧.data_of x human)
+              (λ x4 yx4 h4 i. (text_alike x4.now yx4.now h4 i)) v.tags.items w.tags.items h.2 i),
+        )
+        ∷ ((
+          codes "source",
+          (option_alike ⟦<&'de str as RoundTrip<'de, R>>⟧.same (λ x. ⟦<&'de str as Serialize>⟧.data_of x human)
+              (λ x5 yx5 h5 i. (text_alike x5.now yx5.now h5 i)) v.source w.source h.3 i),
+        ) ∷ [])))) };
+
     ghost only = { λ s v fits. lowers_then s _ _ (λ m. (w : _) → (⟦<Line<'de> as Deserialize<'de, R>>⟧.reads s.human R.lends) m w
         → ⟦<u8 as RoundTrip<'de, R>>⟧.same v.level w.level × ⟦<&'de str as RoundTrip<'de, R>>⟧.same v.text w.text
         × ⟦<Vec<&'de str> as RoundTrip<'de, R>>⟧.same v.tags w.tags × ⟦<Option<&'de str> as RoundTrip<'de, R>>⟧.same v.source w.source)
@@ -291,6 +305,8 @@ impl<'de, R: ReadSlice<'de>> RoundTrip<'de, R> for Label<'de> {
 
     ghost same = { λ v w. ⟦<&'de str as RoundTrip<'de, R>>⟧.same v.0 w.0 };
 
+    ghost alike = { λ human v w h i. wrapped_of (text_alike v.0.now w.0.now h i) };
+
     ghost only = { λ s v fits. lowers_then s (wrapped_of (⟦<&'de str as Serialize>⟧.data_of v.0 s.human))
         (λ j. Only (⟦<&'de str as Deserialize<'de, R>>⟧.reads s.human R.lends) ⟦<&'de str as RoundTrip<'de, R>>⟧.same j v.0) (λ m. (w : _)
         → (⟦<Label<'de> as Deserialize<'de, R>>⟧.reads s.human R.lends) m w
@@ -386,6 +402,8 @@ impl<'de, R: ReadSlice<'de>> RoundTrip<'de, R> for Piece<'de> {
         (rows_cons s _ _ (λ j. ⟦<u32 as Deserialize<'de, R>>⟧.reads s.human R.lends j v.1) _ (unsigned_row_32 s v.1 fits.1) (rows_none s))) };
 
     ghost same = { λ v w. ⟦<Bytes<'de> as RoundTrip<'de, R>>⟧.same v.0 w.0 × ⟦<u32 as RoundTrip<'de, R>>⟧.same v.1 w.1 };
+
+    ghost alike = { λ human v w h i. sequence_of ((bytes_alike (bytes_of v.0) (bytes_of w.0) h.0 i) ∷ ((⟦<u32 as Serialize>⟧.data_of (h.1 i) human) ∷ [])) };
 
     ghost only = { λ s v fits. lowers_then s _ _ (λ m. (w : _) → (⟦<Piece<'de> as Deserialize<'de, R>>⟧.reads s.human R.lends) m w
         → ⟦<Bytes<'de> as RoundTrip<'de, R>>⟧.same v.0 w.0 × ⟦<u32 as RoundTrip<'de, R>>⟧.same v.1 w.1)
@@ -614,6 +632,22 @@ impl<'de, R: ReadSlice<'de>, T: RoundTrip<'de, R>> RoundTrip<'de, R> for Event<'
           × (w ≡ the_event.Put b1 b2) × ⟦<&'de str as RoundTrip<'de, R>>⟧.same a1 b1 × ⟦<u32 as RoundTrip<'de, R>>⟧.same a2 b2
       | the_event.Held a1 ↦ (b1 : _)
           × (w ≡ the_event.Held b1) × T.same a1 b1
+    ] };
+
+    ghost alike = { λ human. elim [
+      | the_event.Started ↦ λ w h. variant_alike (λ x. ⟦<Event<'de, T> as Serialize>⟧.data_of x human) w the_event.Started h
+          (λ i. Some (unit_variant (codes "Started")))
+      | the_event.Said a1 ↦ λ w h. variant_alike (λ x. ⟦<Event<'de, T> as Serialize>⟧.data_of x human) w
+          (the_event.Said h.0) h.1 (λ i. newtype_variant_of (codes "Said") (text_alike a1.now h.0.now h.2 i))
+      | the_event.Moved a1 a2 ↦ λ w h. variant_alike
+          (λ x. ⟦<Event<'de, T> as Serialize>⟧.data_of x human) w (the_event.Moved h.0 h.1) h.2
+          (λ i. tuple_variant_of (codes "Moved") ((⟦<i16 as Serialize>⟧.data_of (h.3 i) human) ∷ ((wrapped_of (text_alike a2.0.now h.1.0.now h.4 i)) ∷ [])))
+      | the_event.Put a1 a2 ↦ λ w h. variant_alike (λ x. ⟦<Event<'de, T> as Serialize>⟧.data_of x human) w (the_event.Put h.0 h.1) h.2
+          (λ i. struct_variant_of (codes "Put") ((codes "key", (text_alike a1.now h.0.now h.3 i))
+          ∷ ((codes "size", (⟦<u32 as Serialize>⟧.data_of (h.4 i) human)) ∷ [])))
+      | the_event.Held a1 ↦ λ w h. variant_alike
+          (λ x. ⟦<Event<'de, T> as Serialize>⟧.data_of x human) w (the_event.Held h.0) h.1
+          (λ i. newtype_variant_of (codes "Held") (T.alike human a1 h.0 h.2 i))
     ] };
 
     ghost only = { λ s. let names = codes "Started" ∷ (codes "Said" ∷ (codes "Moved" ∷ (codes "Put" ∷ (codes "Held" ∷ []))))

@@ -13,6 +13,7 @@ ghost use Rattle.rmp_encode.specs.Trees.{structure_of};
 ghost use Rattle.rmp_ends.specs.FieldEnds.{fields_inside};
 ghost use Rattle.rmp_ends.specs.LeafEnds.{number_inside, string_inside};
 ghost use Rattle.rmp_ends.specs.RowEnds.{each_inside, option_inside};
+ghost use Rattle.rmp_round_trip.specs.AlikeData.{option_alike, slice_alike, text_alike};
 ghost use Rattle.rmp_round_trip.specs.LeafRounds.{unsigned_row_16, string_row};
 ghost use Rattle.rmp_round_trip.specs.OnlyFields.{field_only, fields_both, last_field};
 ghost use Rattle.rmp_round_trip.specs.OnlyLeaves.{unsigned_only, string_only};
@@ -78,6 +79,9 @@ impl<'de, R: ReadSlice<'de>> RoundTrip<'de, R> for Buoy {
 
     ghost same = { λ v w. ⟦<String as RoundTrip<'de, R>>⟧.same v.name w.name × ⟦<u16 as RoundTrip<'de, R>>⟧.same v.depth w.depth };
 
+    ghost alike = { λ human v w h i. structure_of ((codes "name", (text_alike (string_bytes v.name) (string_bytes w.name) h.0 i))
+        ∷ ((codes "depth", (⟦<u16 as Serialize>⟧.data_of (h.1 i) human)) ∷ [])) };
+
     ghost only = { λ s v fits. lowers_then s _ _ (λ m. (w : _) → (⟦<Buoy as Deserialize<'de, R>>⟧.reads s.human R.lends) m w
         → ⟦<String as RoundTrip<'de, R>>⟧.same v.name w.name × ⟦<u16 as RoundTrip<'de, R>>⟧.same v.depth w.depth)
         (structure_row s (codes "name" ∷ (codes "depth" ∷ [])) _ _ refl
@@ -136,6 +140,9 @@ impl<'de, R: ReadSlice<'de>> RoundTrip<'de, R> for Light {
         (Absent ⟦<u16 as Deserialize<'de, R>>⟧.absent v.height) _ (unsigned_row_16 s v.height fits.1) (fields_none s))) };
 
     ghost same = { λ v w. ⟦<String as RoundTrip<'de, R>>⟧.same v.name w.name × ⟦<u16 as RoundTrip<'de, R>>⟧.same v.height w.height };
+
+    ghost alike = { λ human v w h i. structure_of ((codes "name", (text_alike (string_bytes v.name) (string_bytes w.name) h.0 i))
+        ∷ ((codes "height", (⟦<u16 as Serialize>⟧.data_of (h.1 i) human)) ∷ [])) };
 
     ghost only = { λ s v fits. lowers_then s _ _ (λ m. (w : _) → (⟦<Light as Deserialize<'de, R>>⟧.reads s.human R.lends) m w
         → ⟦<String as RoundTrip<'de, R>>⟧.same v.name w.name × ⟦<u16 as RoundTrip<'de, R>>⟧.same v.height w.height)
@@ -243,6 +250,17 @@ impl<'de, R: ReadSlice<'de>> RoundTrip<'de, R> for Coast {
         (λ x6 h6. (light_rounds.round-law R.row R.ReadSlice.own (given 0) R.Source (given 0) (λ e. cc) s x6 h6)) v.light fits.1) (fields_none s))) };
 
     ghost same = { λ v w. ⟦<Vec<Buoy> as RoundTrip<'de, R>>⟧.same v.buoys w.buoys × ⟦<Option<Light> as RoundTrip<'de, R>>⟧.same v.light w.light };
+
+    ghost alike = { λ human v w h i. structure_of ((
+      codes "buoys",
+      (slice_alike ⟦<Buoy as RoundTrip<'de, R>>⟧.same (λ x. ⟦<Buoy as Serialize>⟧.data_of x human)
+          (λ x4 yx4 h4 i. (buoy_rounds.alike-law R.row R.ReadSlice.own (given 0) R.Source (given 0) human x4 yx4 h4 i)) v.buoys.items w.buoys.items h.0 i),
+    )
+        ∷ ((
+          codes "light",
+          (option_alike ⟦<Light as RoundTrip<'de, R>>⟧.same (λ x. ⟦<Light as Serialize>⟧.data_of x human)
+              (λ x5 yx5 h5 i. (light_rounds.alike-law R.row R.ReadSlice.own (given 0) R.Source (given 0) human x5 yx5 h5 i)) v.light w.light h.1 i),
+        ) ∷ [])) };
 
     ghost only = { λ s v fits. lowers_then s _ _ (λ m. (w : _) → (⟦<Coast as Deserialize<'de, R>>⟧.reads s.human R.lends) m w
         → ⟦<Vec<Buoy> as RoundTrip<'de, R>>⟧.same v.buoys w.buoys × ⟦<Option<Light> as RoundTrip<'de, R>>⟧.same v.light w.light)

@@ -1,14 +1,18 @@
 //! How the types of nodes.rt are written and read. Written by tools/derive.py.
 //!
-//! Sum of Rose: d8c50c41.
+//! Sum of Rose: 96b4d25e.
 ghost use Rattle.rmp_decode.specs.Law.{Lawful};
+ghost use Rattle.rmp_encode.specs.Refusals.{OfLength};
+ghost use Rattle.rmp_encode.specs.Trees.{forces_slices};
 ghost use Rattle.rmp_recursive.specs.Parts.{Row};
-ghost use Rattle.std.specs.Prelude.{None, Some};
+ghost use Rattle.std.specs.Prelude.{None, Some, ⊤};
 ghost use Rattle.test_nodes.specs.RoseLevels.{IsRose, rose_data, rose_fits};
+ghost use Rattle.test_nodes.specs.RoseRounds.{SameRose, rose_some, rose_round, rose_only, rose_other};
 
 use super::Rose;
 use rmp_decode::{Deserialize, Deserializer, ReadPlaces, Slices};
 use rmp_encode::{Serialize, Serializer};
+use rmp_round_trip::{NeverNil, RoundTrip};
 use rmp_wire::config::SerializerConfig;
 use rmp_wire::{ReadSlice, Sink, Source};
 
@@ -16,6 +20,10 @@ impl Serialize for Rose {
     ghost data_of = { λ v human. rose_data v };
 
     ghost is_value = { λ v. rose_fits v };
+
+    ghost takes_memory = { λ s. forces_slices s.bytes };
+
+    ghost refuses = { λ _. OfLength ⊤ };
 
     #[cycle(rose_writing)]
     fn serialize<W: Sink, C: SerializerConfig>(
@@ -103,4 +111,20 @@ impl<'de, R: ReadSlice<'de>> Deserialize<'de, R> for Rose {
     fn missing() -> Option<Rose> {
         None
     }
+}
+
+impl<'de, R: ReadSlice<'de>> RoundTrip<'de, R> for Rose {
+    ghost has_data = { λ human v. rose_some v };
+
+    ghost round = { λ lent s v fits. rose_round s v fits };
+
+    ghost same = { SameRose };
+
+    ghost alike = { λ human v w h. h };
+
+    ghost only = { λ s v fits. rose_only s v fits };
+}
+
+impl NeverNil for Rose {
+    ghost never_nil = { λ s v. rose_other s v };
 }

@@ -15,6 +15,7 @@ ghost use Rattle.rmp_ends.specs.EnumEnds.{enum_inside, with_content_inside};
 ghost use Rattle.rmp_ends.specs.FieldEnds.{fields_inside};
 ghost use Rattle.rmp_ends.specs.LeafEnds.{string_inside};
 ghost use Rattle.rmp_ends.specs.RowEnds.{each_inside, option_inside};
+ghost use Rattle.rmp_round_trip.specs.AlikeData.{float64_alike, option_alike, slice_alike, text_alike, variant_alike};
 ghost use Rattle.rmp_round_trip.specs.LeafRounds.{string_row, float64_other};
 ghost use Rattle.rmp_round_trip.specs.OnlyFields.{AtPlace, content_fields, content_only, field_only, fields_both, last_field, variant_both};
 ghost use Rattle.rmp_round_trip.specs.OnlyLeaves.{string_only};
@@ -25,7 +26,7 @@ ghost use Rattle.rmp_round_trip.specs.StructRounds.{structure_all, struct_varian
 ghost use Rattle.rmp_round_trip.specs.VariantRounds.{newtype_variant_other, struct_variant_other};
 ghost use Rattle.rmp_round_trip.specs.VariantRounds.{newtype_variant_some, newtype_variant_row, struct_variant_row};
 ghost use Rattle.rmp_types.specs.FloatRounds.{float_only, float_row, float_inside};
-ghost use Rattle.rmp_types.specs.TimestampRounds.{time_only, time_row, time_inside};
+ghost use Rattle.rmp_types.specs.TimestampRounds.{time_alike, time_only, time_row, time_inside};
 ghost use Rattle.std.proofs.Common.{refl};
 ghost use Rattle.std.specs.Option.{is_none};
 ghost use Rattle.std.specs.Prelude.{◌≡◌, ◌∷◌, [], None, codes, string_bytes};
@@ -119,6 +120,10 @@ impl<'de, R: ReadSlice<'de>> RoundTrip<'de, R> for Reading {
 
     ghost same = { λ v w. ⟦<String as RoundTrip<'de, R>>⟧.same v.name w.name × ⟦<Float64 as RoundTrip<'de, R>>⟧.same v.load w.load
         × ⟦<Timestamp as RoundTrip<'de, R>>⟧.same v.at w.at };
+
+    ghost alike = { λ human v w h i. structure_of ((codes "name", (text_alike (string_bytes v.name) (string_bytes w.name) h.0 i))
+        ∷ ((codes "load", (float64_alike v.load.bits w.load.bits h.1 i))
+        ∷ ((codes "at", (time_alike v.at.seconds w.at.seconds v.at.nanoseconds w.at.nanoseconds h.2 i)) ∷ []))) };
 
     ghost only = { λ s v fits. lowers_then s _ _ (λ m. (w : _) → (⟦<Reading as Deserialize<'de, R>>⟧.reads s.human R.lends) m w
         → ⟦<String as RoundTrip<'de, R>>⟧.same v.name w.name × ⟦<Float64 as RoundTrip<'de, R>>⟧.same v.load w.load
@@ -263,6 +268,21 @@ impl<'de, R: ReadSlice<'de>> RoundTrip<'de, R> for Alarm {
           × ⟦<Timestamp as RoundTrip<'de, R>>⟧.same a1 b1 × ⟦<Option<Float64> as RoundTrip<'de, R>>⟧.same a2 b2
       | the_alarm.Above a1 ↦ (b1 : _)
           × (w ≡ the_alarm.Above b1) × ⟦<Vec<Float64> as RoundTrip<'de, R>>⟧.same a1 b1
+    ] };
+
+    ghost alike = { λ human. elim [
+      | the_alarm.Silent a1 a2 ↦ λ w h. variant_alike (λ x. ⟦<Alarm as Serialize>⟧.data_of x human) w
+          (the_alarm.Silent h.0 h.1) h.2 (λ i. struct_variant_of (codes "Silent")
+          ((codes "since", (time_alike a1.seconds h.0.seconds a1.nanoseconds h.0.nanoseconds h.3 i))
+          ∷ ((
+            codes "last",
+            (option_alike ⟦<Float64 as RoundTrip<'de, R>>⟧.same (λ x. ⟦<Float64 as Serialize>⟧.data_of x human)
+                (λ x4 yx4 h4 i. (float64_alike x4.bits yx4.bits h4 i)) a2 h.1 h.4 i),
+          ) ∷ [])))
+      | the_alarm.Above a1 ↦ λ w h. variant_alike
+          (λ x. ⟦<Alarm as Serialize>⟧.data_of x human) w (the_alarm.Above h.0) h.1
+          (λ i. newtype_variant_of (codes "Above") (slice_alike ⟦<Float64 as RoundTrip<'de, R>>⟧.same (λ x. ⟦<Float64 as Serialize>⟧.data_of x human)
+          (λ x5 yx5 h5 i. (float64_alike x5.bits yx5.bits h5 i)) a1.items h.0.items h.2 i))
     ] };
 
     ghost only = { λ s. let names = codes "Silent" ∷ (codes "Above" ∷ [])

@@ -9,19 +9,22 @@ ghost use Rattle.rmp_decode.specs.Rows.{ReadsEach};
 ghost use Rattle.rmp_encode.specs.Markers.{value_of};
 ghost use Rattle.rmp_encode.specs.Refusals.{OfParts};
 ghost use Rattle.rmp_encode.specs.Sizes.{one_of};
-ghost use Rattle.rmp_encode.specs.Trees.{structure_of};
+ghost use Rattle.rmp_encode.specs.Trees.{structure_of, tuple_of};
 ghost use Rattle.rmp_ends.specs.BufferEnds.{buffer_inside};
 ghost use Rattle.rmp_ends.specs.FieldEnds.{fields_inside};
 ghost use Rattle.rmp_ends.specs.LeafEnds.{kind_inside, number_inside, nil_inside, signed128_inside, unsigned128_inside, char_inside, string_inside};
 ghost use Rattle.rmp_ends.specs.MapEnds.{map_inside};
 ghost use Rattle.rmp_ends.specs.RowEnds.{array_inside, each_inside, option_inside, tuple_inside};
+ghost use Rattle.rmp_round_trip.specs.AlikeData.{array_alike, bytes_alike, float64_alike, mapping_alike, option_alike};
+ghost use Rattle.rmp_round_trip.specs.AlikeData.{sequence_alike, slice_alike, text_alike, unit_alike};
+ghost use Rattle.rmp_round_trip.specs.AlikeOrder.{tied};
 ghost use Rattle.rmp_round_trip.specs.LeafRounds.{byte_row, unsigned_row_16, unsigned_row_32, unsigned_row_64, signed_row_16, signed_row_64, truth_row};
 ghost use Rattle.rmp_round_trip.specs.LeafRounds.{unit_row, float64_row, char_row, string_row, buffer_row, truth_other, text_other};
 ghost use Rattle.rmp_round_trip.specs.MapRounds.{mapping_some, map_row, pairs_row, set_row};
 ghost use Rattle.rmp_round_trip.specs.OnlyFields.{field_only, fields_both, last_field};
 ghost use Rattle.rmp_round_trip.specs.OnlyLeaves.{unit_only, truth_only, byte_only, unsigned_only, signed_only, float64_only};
 ghost use Rattle.rmp_round_trip.specs.OnlyLeaves.{unsigned128_only, signed128_only, char_only, string_only, buffer_only};
-ghost use Rattle.rmp_round_trip.specs.OnlyMaps.{map_only, set_only};
+ghost use Rattle.rmp_round_trip.specs.OnlyMaps.{entries_only, set_only};
 ghost use Rattle.rmp_round_trip.specs.OnlyRows.{array_only, item_only, last_only, list_only, lowers_then, option_only, row_both};
 ghost use Rattle.rmp_round_trip.specs.RoundTrip.{Only};
 ghost use Rattle.rmp_round_trip.specs.Rounds.{each_some, each_row, rows_map, option_some, option_row, slice_some, slice_row};
@@ -29,13 +32,16 @@ ghost use Rattle.rmp_round_trip.specs.Rounds.{tuple_some, tuple_row, sequence_so
 ghost use Rattle.rmp_round_trip.specs.StructRounds.{tuple_all, structure_all, structure_row, structure_other, fields_none, fields_cons};
 ghost use Rattle.rmp_round_trip.specs.WideRounds.{unsigned128_row, signed128_row};
 ghost use Rattle.rmp_wire.specs.Types.{buffer_bytes};
-ghost use Rattle.std.proofs.Common.{refl};
+ghost use Rattle.std.proofs.Common.{refl, rules};
 ghost use Rattle.std.proofs.lemmas.Cmp.{on_total, nat_list_cmp_total};
+ghost use Rattle.std.specs.Cmp.Lexicographic.{slice_cmp};
+ghost use Rattle.std.specs.Cmp.Rules.{comparing};
 ghost use Rattle.std.specs.Option.{is_none};
+ghost use Rattle.std.specs.Ordering.{nat_cmp};
 ghost use Rattle.std.specs.Prelude.{◌∷◌, [], None, codes, string_bytes, pos, negsuc};
 
 use super::{BTreeMap, BTreeSet, ByteBuf, Course, F64Bits, Manifest, Spot};
-use rmp_decode::{Deserialize, Deserializer, SixteenThen};
+use rmp_decode::{Deserialize, Deserializer, EightThen};
 use rmp_encode::{Elements, Serialize, Serializer};
 use rmp_ends::EndsInside;
 use rmp_round_trip::{NeverNil, RoundTrip};
@@ -230,7 +236,7 @@ impl<'de, R: ReadSlice<'de>> Deserialize<'de, R> for Manifest {
         de: &mut Deserializer<R, C>,
     ) -> Result<Manifest, rmp_decode::Error> {
         let read: Result<
-            SixteenThen<
+            EightThen<
                 String,
                 Course,
                 Vec<(u8, String)>,
@@ -239,15 +245,17 @@ impl<'de, R: ReadSlice<'de>> Deserialize<'de, R> for Manifest {
                 char,
                 Spot,
                 BTreeMap<String, u64>,
-                [u16; 3],
-                Option<Spot>,
-                ByteBuf,
-                (i64, Option<bool>),
-                Option<String>,
-                u32,
-                F64Bits,
-                Vec<String>,
-                (i16, i128, BTreeSet<u16>, bool, ()),
+                EightThen<
+                    [u16; 3],
+                    Option<Spot>,
+                    ByteBuf,
+                    (i64, Option<bool>),
+                    Option<String>,
+                    u32,
+                    F64Bits,
+                    Vec<String>,
+                    (i16, i128, BTreeSet<u16>, bool, ()),
+                >,
             >,
             rmp_decode::Error,
         > = de.deserialize_fields(&[
@@ -257,7 +265,7 @@ impl<'de, R: ReadSlice<'de>> Deserialize<'de, R> for Manifest {
         ]);
         match read {
             Ok(parts) => {
-                let SixteenThen {
+                let EightThen {
                     first: ship,
                     second: course,
                     third: crew,
@@ -266,16 +274,19 @@ impl<'de, R: ReadSlice<'de>> Deserialize<'de, R> for Manifest {
                     sixth: flag,
                     seventh: spot,
                     eighth: cargo,
-                    ninth: depths,
-                    tenth: last,
-                    eleventh: chart,
-                    twelfth: pair,
-                    thirteenth: owner,
-                    fourteenth: tonnage,
-                    fifteenth: draught,
-                    sixteenth: ports,
                     rest: others,
                 } = parts;
+                let EightThen {
+                    first: depths,
+                    second: last,
+                    third: chart,
+                    fourth: pair,
+                    fifth: owner,
+                    sixth: tonnage,
+                    seventh: draught,
+                    eighth: ports,
+                    rest: others,
+                } = others;
                 let (heading, debt, berths, done, ()) = others;
                 return Ok(Manifest {
                     ship,
@@ -472,6 +483,61 @@ impl<'de, R: ReadSlice<'de>> RoundTrip<'de, R> for Manifest {
         × ⟦<i16 as RoundTrip<'de, R>>⟧.same v.heading w.heading × ⟦<i128 as RoundTrip<'de, R>>⟧.same v.debt w.debt
         × ⟦<BTreeSet<u16> as RoundTrip<'de, R>>⟧.same v.berths w.berths × ⟦<bool as RoundTrip<'de, R>>⟧.same v.done w.done };
 
+    ghost alike = { λ human v w h i. structure_of ((codes "ship", (text_alike (string_bytes v.ship) (string_bytes w.ship) h.0 i))
+        ∷ ((codes "course", (course_rounds.alike-law R.row R.ReadSlice.own (given 0) R.Source (given 0) human v.course w.course h.1 i))
+        ∷ ((
+          codes "crew",
+          (slice_alike ⟦<(u8, String) as RoundTrip<'de, R>>⟧.same (λ x. ⟦<(u8, String) as Serialize>⟧.data_of x human)
+              (λ x13 yx13 h13 i. (tuple_of ((⟦<u8 as Serialize>⟧.data_of (h13.0 i) human)
+              ∷ ((text_alike (string_bytes x13.1) (string_bytes yx13.1) h13.1 i) ∷ [])))) v.crew.items w.crew.items h.2 i),
+        )
+        ∷ ((codes "seal", (⟦<u128 as Serialize>⟧.data_of (h.3 i) human))
+        ∷ ((codes "nothing", (unit_alike i)) ∷ ((codes "flag", (⟦<char as Serialize>⟧.data_of (h.5 i) human))
+        ∷ ((codes "spot", (spot_rounds.alike-law R.row R.ReadSlice.own (given 0) R.Source (given 0) human v.spot w.spot h.6 i))
+        ∷ ((
+          codes "cargo",
+          (mapping_alike ⟦<String as RoundTrip<'de, R>>⟧.same (λ x. ⟦<String as Serialize>⟧.data_of x human)
+              (λ x14 yx14 h14 i. (text_alike (string_bytes x14) (string_bytes yx14) h14 i)) ⟦<u64 as RoundTrip<'de, R>>⟧.same
+              (λ x. ⟦<u64 as Serialize>⟧.data_of x human) (λ x15 yx15 h15 i. (⟦<u64 as Serialize>⟧.data_of (h15 i) human)) v.cargo.entries w.cargo.entries h.7 i),
+        )
+        ∷ ((
+          codes "depths",
+          (array_alike ⟦<u16 as RoundTrip<'de, R>>⟧.same (λ x. ⟦<u16 as Serialize>⟧.data_of x human)
+              (λ x16 yx16 h16 i. (⟦<u16 as Serialize>⟧.data_of (h16 i) human)) v.depths w.depths h.8 i),
+        )
+        ∷ ((
+          codes "last",
+          (option_alike ⟦<Spot as RoundTrip<'de, R>>⟧.same (λ x. ⟦<Spot as Serialize>⟧.data_of x human)
+              (λ x17 yx17 h17 i. (spot_rounds.alike-law R.row R.ReadSlice.own (given 0) R.Source (given 0) human x17 yx17 h17 i)) v.last w.last h.9 i),
+        )
+        ∷ ((codes "chart", (bytes_alike (buffer_bytes v.chart) (buffer_bytes w.chart) h.10 i))
+        ∷ ((
+          codes "pair",
+          (tuple_of ((⟦<i64 as Serialize>⟧.data_of (h.11.0 i) human)
+              ∷ ((option_alike ⟦<bool as RoundTrip<'de, R>>⟧.same (λ x. ⟦<bool as Serialize>⟧.data_of x human)
+              (λ x18 yx18 h18 i. (⟦<bool as Serialize>⟧.data_of (h18 i) human)) v.pair.1 w.pair.1 h.11.1 i) ∷ []))),
+        )
+        ∷ ((
+          codes "owner",
+          (option_alike ⟦<String as RoundTrip<'de, R>>⟧.same (λ x. ⟦<String as Serialize>⟧.data_of x human)
+              (λ x19 yx19 h19 i. (text_alike (string_bytes x19) (string_bytes yx19) h19 i)) v.owner w.owner h.12 i),
+        )
+        ∷ ((codes "tonnage", (⟦<u32 as Serialize>⟧.data_of (h.13 i) human))
+        ∷ ((codes "draught", (float64_alike v.draught.0 w.draught.0 h.14 i))
+        ∷ ((
+          codes "ports",
+          (slice_alike ⟦<String as RoundTrip<'de, R>>⟧.same (λ x. ⟦<String as Serialize>⟧.data_of x human)
+              (λ x20 yx20 h20 i. (text_alike (string_bytes x20) (string_bytes yx20) h20 i)) v.ports.items w.ports.items h.15 i),
+        )
+        ∷ ((codes "heading", (⟦<i16 as Serialize>⟧.data_of (h.16 i) human))
+        ∷ ((codes "debt", (⟦<i128 as Serialize>⟧.data_of (h.17 i) human))
+        ∷ ((
+          codes "berths",
+          (sequence_alike ⟦<u16 as RoundTrip<'de, R>>⟧.same (λ x. ⟦<u16 as Serialize>⟧.data_of x human)
+              (λ x21 yx21 h21 i. (⟦<u16 as Serialize>⟧.data_of (h21 i) human)) v.berths.keys w.berths.keys h.18 i),
+        )
+        ∷ ((codes "done", (⟦<bool as Serialize>⟧.data_of (h.19 i) human)) ∷ [])))))))))))))))))))) };
+
     ghost only = { λ s v fits. lowers_then s _ _ (λ m. (w : _) → (⟦<Manifest as Deserialize<'de, R>>⟧.reads s.human R.lends) m w
         → ⟦<String as RoundTrip<'de, R>>⟧.same v.ship w.ship × ⟦<Course as RoundTrip<'de, R>>⟧.same v.course w.course
         × ⟦<Vec<(u8, String)> as RoundTrip<'de, R>>⟧.same v.crew w.crew × ⟦<u128 as RoundTrip<'de, R>>⟧.same v.seal w.seal
@@ -515,10 +581,12 @@ impl<'de, R: ReadSlice<'de>> RoundTrip<'de, R> for Manifest {
         (spot_rounds.only-law R.row R.ReadSlice.own (given 0) R.Source (given 0) s v.spot fits.6)
         (fields_cons s (codes "cargo") _ _ _ (λ j. Only (⟦<BTreeMap<String, u64> as Deserialize<'de, R>>⟧.reads s.human R.lends)
         ⟦<BTreeMap<String, u64> as RoundTrip<'de, R>>⟧.same j v.cargo) ⊥ _
-        (map_only (⟦<String as Deserialize<'de, R>>⟧.reads s.human R.lends) (⟦<u64 as Deserialize<'de, R>>⟧.reads s.human R.lends)
-        ⟦<String as RoundTrip<'de, R>>⟧.same ⟦<u64 as RoundTrip<'de, R>>⟧.same s _ (λ w. w.entries) ⟦<String as Ord>⟧.cmp v.cargo.entries
-        (pairs_row s (λ x. ⟦<String as Serialize>⟧.data_of x s.human) (λ x. ⟦<u64 as Serialize>⟧.data_of x s.human) ⟦<String as Serialize>⟧.is_value
-        ⟦<u64 as Serialize>⟧.is_value (Only (⟦<String as Deserialize<'de, R>>⟧.reads s.human R.lends) ⟦<String as RoundTrip<'de, R>>⟧.same)
+        (entries_only (⟦<String as Deserialize<'de, R>>⟧.reads s.human R.lends) (⟦<u64 as Deserialize<'de, R>>⟧.reads s.human R.lends)
+        ⟦<String as RoundTrip<'de, R>>⟧.same ⟦<u64 as RoundTrip<'de, R>>⟧.same s _ (λ w. w.entries) {cmp = ⟦<String as Ord>⟧.cmp}
+        (on_total (λ x. string_bytes x) nat_list_cmp_total) (λ x y e. tied (slice_cmp nat_cmp) nat_list_cmp_total (string_bytes x) (string_bytes y) e)
+        v.cargo.entries fits.7.1 (pairs_row s (λ x. ⟦<String as Serialize>⟧.data_of x s.human) (λ x. ⟦<u64 as Serialize>⟧.data_of x s.human)
+        ⟦<String as Serialize>⟧.is_value ⟦<u64 as Serialize>⟧.is_value
+        (Only (⟦<String as Deserialize<'de, R>>⟧.reads s.human R.lends) ⟦<String as RoundTrip<'de, R>>⟧.same)
         (Only (⟦<u64 as Deserialize<'de, R>>⟧.reads s.human R.lends) ⟦<u64 as RoundTrip<'de, R>>⟧.same)
         (λ x2 h2. (string_only s (λ w. string_bytes w) (string_bytes x2))) (λ x3 h3. (unsigned_only s 18446744073709551615 x3)) v.cargo.entries fits.7.0))
         (fields_cons s (codes "depths") _ _ _ (λ j. Only (⟦<[u16; 3] as Deserialize<'de, R>>⟧.reads s.human R.lends) ⟦<[u16; 3] as RoundTrip<'de, R>>⟧.same
@@ -569,9 +637,10 @@ impl<'de, R: ReadSlice<'de>> RoundTrip<'de, R> for Manifest {
         (fields_cons s (codes "debt") _ _ _ (λ j. Only (⟦<i128 as Deserialize<'de, R>>⟧.reads s.human R.lends) ⟦<i128 as RoundTrip<'de, R>>⟧.same j v.debt)
         ⊥ _ (signed128_only s v.debt fits.17) (fields_cons s (codes "berths") _ _ _
         (λ j. Only (⟦<BTreeSet<u16> as Deserialize<'de, R>>⟧.reads s.human R.lends) ⟦<BTreeSet<u16> as RoundTrip<'de, R>>⟧.same j v.berths) ⊥ _
-        (set_only s _ (λ w. w.keys) ⟦<u16 as Ord>⟧.cmp (⟦<u16 as Deserialize<'de, R>>⟧.reads s.human R.lends) ⟦<u16 as RoundTrip<'de, R>>⟧.same
-        v.berths.keys (sequence_row s _ (λ ms. ReadsEach (Only (⟦<u16 as Deserialize<'de, R>>⟧.reads s.human R.lends) ⟦<u16 as RoundTrip<'de, R>>⟧.same) ms
-        v.berths.keys) (each_row s (λ x. ⟦<u16 as Serialize>⟧.data_of x s.human) ⟦<u16 as Serialize>⟧.is_value
+        (set_only s _ (λ w. w.keys) {cmp = ⟦<u16 as Ord>⟧.cmp} (Prim.search (comparing, rules)) (⟦<u16 as Deserialize<'de, R>>⟧.reads s.human R.lends)
+        ⟦<u16 as RoundTrip<'de, R>>⟧.same (λ x y e. tied ⟦<u16 as Ord>⟧.cmp (Prim.search (comparing, rules)) x y e) v.berths.keys fits.18.1
+        (sequence_row s _ (λ ms. ReadsEach (Only (⟦<u16 as Deserialize<'de, R>>⟧.reads s.human R.lends) ⟦<u16 as RoundTrip<'de, R>>⟧.same) ms v.berths.keys)
+        (each_row s (λ x. ⟦<u16 as Serialize>⟧.data_of x s.human) ⟦<u16 as Serialize>⟧.is_value
         (Only (⟦<u16 as Deserialize<'de, R>>⟧.reads s.human R.lends) ⟦<u16 as RoundTrip<'de, R>>⟧.same) (λ x12 h12. (unsigned_only s 65535 x12))
         v.berths.keys fits.18.0))) (fields_cons s (codes "done") _ _ _
         (λ j. Only (⟦<bool as Deserialize<'de, R>>⟧.reads s.human R.lends) ⟦<bool as RoundTrip<'de, R>>⟧.same j v.done) ⊥ _ (truth_only s v.done)

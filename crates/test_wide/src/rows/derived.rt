@@ -2,8 +2,11 @@
 //!
 //! Sum of Row: e7e5ce27.
 //! Sum of Line: b887d294.
+//! Sum of Papers: 686e1e1e.
 ghost use Rattle.rmp_decode.specs.Arrays.{Exactly};
 ghost use Rattle.rmp_decode.specs.EnumRefusing.{RefusesEnum, no_content, with_content};
+ghost use Rattle.rmp_decode.specs.FieldRefusing.{RefusesFields};
+ghost use Rattle.rmp_decode.specs.Fields.{OfFields, Field, Absent, NoField};
 ghost use Rattle.rmp_decode.specs.Refusing.{RefusesTuple, part_of};
 ghost use Rattle.rmp_decode.specs.Rows.{AndThen, NoMore, ReadsEach};
 ghost use Rattle.rmp_decode.specs.Seq.{OfRow};
@@ -12,33 +15,41 @@ ghost use Rattle.rmp_encode.specs.Data.{unit_variant};
 ghost use Rattle.rmp_encode.specs.Markers.{value_of};
 ghost use Rattle.rmp_encode.specs.Refusals.{OfParts, OfSink};
 ghost use Rattle.rmp_encode.specs.Sizes.{one_of};
-ghost use Rattle.rmp_encode.specs.Trees.{sequence_of, tuple_variant_of};
+ghost use Rattle.rmp_encode.specs.Trees.{sequence_of, structure_of, tuple_variant_of, tuple_of};
 ghost use Rattle.rmp_ends.specs.BufferEnds.{buffer_inside};
 ghost use Rattle.rmp_ends.specs.EnumEnds.{enum_inside, no_content_inside, with_content_inside};
+ghost use Rattle.rmp_ends.specs.FieldEnds.{fields_inside};
 ghost use Rattle.rmp_ends.specs.LeafEnds.{kind_inside, number_inside, nil_inside, signed128_inside, char_inside, string_inside};
 ghost use Rattle.rmp_ends.specs.MapEnds.{map_inside};
 ghost use Rattle.rmp_ends.specs.RowEnds.{array_inside, each_inside, option_inside, tuple_inside};
-ghost use Rattle.rmp_round_trip.specs.LeafRounds.{byte_row, unsigned_row_16, unsigned_row_32, unsigned_row_64, signed_row_16, signed_row_32, truth_row};
-ghost use Rattle.rmp_round_trip.specs.LeafRounds.{unit_row, float64_row, char_row, string_row, buffer_row, pos_other};
+ghost use Rattle.rmp_round_trip.specs.AlikeData.{array_alike, bytes_alike, float64_alike, mapping_alike, option_alike};
+ghost use Rattle.rmp_round_trip.specs.AlikeData.{slice_alike, text_alike, unit_alike, variant_alike};
+ghost use Rattle.rmp_round_trip.specs.AlikeOrder.{tied};
+ghost use Rattle.rmp_round_trip.specs.LeafRounds.{byte_row, unsigned_row_16, unsigned_row_32, unsigned_row_64, signed_row_8, signed_row_16, signed_row_32};
+ghost use Rattle.rmp_round_trip.specs.LeafRounds.{truth_row, unit_row, float64_row, char_row, string_row, buffer_row, pos_other};
 ghost use Rattle.rmp_round_trip.specs.MapRounds.{mapping_some, map_row, pairs_row};
-ghost use Rattle.rmp_round_trip.specs.OnlyFields.{AtPlace, AnyContent, content_row, variant_both};
+ghost use Rattle.rmp_round_trip.specs.OnlyFields.{AtPlace, AnyContent, content_row, field_only, fields_both, last_field, variant_both};
 ghost use Rattle.rmp_round_trip.specs.OnlyLeaves.{float64_only, signed128_only, char_only, string_only, buffer_only};
 ghost use Rattle.rmp_round_trip.specs.OnlyLeaves.{unit_only, truth_only, byte_only, unsigned_only, signed_only};
-ghost use Rattle.rmp_round_trip.specs.OnlyMaps.{map_only};
+ghost use Rattle.rmp_round_trip.specs.OnlyMaps.{entries_only};
 ghost use Rattle.rmp_round_trip.specs.OnlyRows.{array_only, item_only, last_only, list_only, lowers_then, option_only, row_both};
 ghost use Rattle.rmp_round_trip.specs.RoundTrip.{Only};
 ghost use Rattle.rmp_round_trip.specs.Rounds.{each_some, each_row, rows_map, option_some, option_row, slice_some, slice_row};
 ghost use Rattle.rmp_round_trip.specs.Rounds.{tuple_some, tuple_row, sequence_row, sequence_other, rows_none, rows_cons};
-ghost use Rattle.rmp_round_trip.specs.StructRounds.{sequence_all, tuple_all, tuple_variant_all};
+ghost use Rattle.rmp_round_trip.specs.StructRounds.{sequence_all, tuple_all, tuple_variant_all, structure_all};
+ghost use Rattle.rmp_round_trip.specs.StructRounds.{structure_row, structure_other, fields_none, fields_cons};
 ghost use Rattle.rmp_round_trip.specs.VariantRounds.{bare_row, tuple_variant_row, bare_other, tuple_variant_other};
 ghost use Rattle.rmp_round_trip.specs.WideRounds.{signed128_row};
 ghost use Rattle.rmp_wire.specs.Types.{buffer_bytes};
 ghost use Rattle.std.proofs.Common.{refl};
 ghost use Rattle.std.proofs.lemmas.Cmp.{on_total, nat_list_cmp_total};
+ghost use Rattle.std.specs.Cmp.Lexicographic.{slice_cmp};
+ghost use Rattle.std.specs.Option.{is_none};
+ghost use Rattle.std.specs.Ordering.{nat_cmp};
 ghost use Rattle.std.specs.Prelude.{◌≡◌, ◌∷◌, [], None, Some, codes, false, ⊤, string_bytes, pos, negsuc};
 ghost use Rattle.test_wide.specs.declared.rows.Line.TheVariants as the_line;
 
-use super::{BTreeMap, ByteBuf, F64Bits, Line, Row, Spot};
+use super::{BTreeMap, ByteBuf, F64Bits, Line, Papers, Row, Spot};
 use rmp_decode::{Deserialize, Deserializer};
 use rmp_encode::{Elements, Serialize, Serializer};
 use rmp_ends::EndsInside;
@@ -305,6 +316,27 @@ impl<'de, R: ReadSlice<'de>> RoundTrip<'de, R> for Row {
         × ⟦<i128 as RoundTrip<'de, R>>⟧.same v.13 w.13 × ⟦<() as RoundTrip<'de, R>>⟧.same v.14 w.14
         × ⟦<Option<Spot> as RoundTrip<'de, R>>⟧.same v.15 w.15 };
 
+    ghost alike = { λ human v w h i. sequence_of ((⟦<u64 as Serialize>⟧.data_of (h.0 i) human)
+        ∷ ((text_alike (string_bytes v.1) (string_bytes w.1) h.1 i)
+        ∷ ((⟦<i32 as Serialize>⟧.data_of (h.2 i) human) ∷ ((option_alike ⟦<u16 as RoundTrip<'de, R>>⟧.same (λ x. ⟦<u16 as Serialize>⟧.data_of x human)
+        (λ x9 yx9 h9 i. (⟦<u16 as Serialize>⟧.data_of (h9 i) human)) v.3 w.3 h.3 i)
+        ∷ ((⟦<bool as Serialize>⟧.data_of (h.4 i) human) ∷
+        ((⟦<char as Serialize>⟧.data_of (h.5 i) human) ∷ ((float64_alike v.6.0 w.6.0 h.6 i)
+        ∷ ((slice_alike ⟦<u16 as RoundTrip<'de, R>>⟧.same (λ x. ⟦<u16 as Serialize>⟧.data_of x human)
+        (λ x10 yx10 h10 i. (⟦<u16 as Serialize>⟧.data_of (h10 i) human)) v.7.items w.7.items h.7 i)
+        ∷ ((array_alike ⟦<u16 as RoundTrip<'de, R>>⟧.same (λ x. ⟦<u16 as Serialize>⟧.data_of x human)
+        (λ x11 yx11 h11 i. (⟦<u16 as Serialize>⟧.data_of (h11 i) human)) v.8 w.8 h.8 i)
+        ∷ ((spot_rounds.alike-law R.row R.ReadSlice.own (given 0) R.Source (given 0) human v.9 w.9 h.9 i)
+        ∷ ((tuple_of ((⟦<u8 as Serialize>⟧.data_of (h.10.0 i) human) ∷ ((text_alike (string_bytes v.10.1) (string_bytes w.10.1) h.10.1 i) ∷ [])))
+        ∷ ((bytes_alike (buffer_bytes v.11) (buffer_bytes w.11) h.11 i)
+        ∷ ((mapping_alike ⟦<String as RoundTrip<'de, R>>⟧.same (λ x. ⟦<String as Serialize>⟧.data_of x human)
+        (λ x12 yx12 h12 i. (text_alike (string_bytes x12) (string_bytes yx12) h12 i)) ⟦<u32 as RoundTrip<'de, R>>⟧.same
+        (λ x. ⟦<u32 as Serialize>⟧.data_of x human) (λ x13 yx13 h13 i. (⟦<u32 as Serialize>⟧.data_of (h13 i) human)) v.12.entries w.12.entries h.12 i)
+        ∷ ((⟦<i128 as Serialize>⟧.data_of (h.13 i) human) ∷
+        ((unit_alike i) ∷ ((option_alike ⟦<Spot as RoundTrip<'de, R>>⟧.same (λ x. ⟦<Spot as Serialize>⟧.data_of x human)
+        (λ x14 yx14 h14 i. (spot_rounds.alike-law R.row R.ReadSlice.own (given 0) R.Source (given 0) human x14 yx14 h14 i)) v.15 w.15 h.15 i)
+        ∷ [])))))))))))))))) };
+
     ghost only = { λ s v fits. lowers_then s _ _ (λ m. (w : _) → (⟦<Row as Deserialize<'de, R>>⟧.reads s.human R.lends) m w
         → ⟦<u64 as RoundTrip<'de, R>>⟧.same v.0 w.0 × ⟦<String as RoundTrip<'de, R>>⟧.same v.1 w.1 × ⟦<i32 as RoundTrip<'de, R>>⟧.same v.2 w.2
         × ⟦<Option<u16> as RoundTrip<'de, R>>⟧.same v.3 w.3 × ⟦<bool as RoundTrip<'de, R>>⟧.same v.4 w.4 × ⟦<char as RoundTrip<'de, R>>⟧.same v.5 w.5
@@ -350,10 +382,12 @@ impl<'de, R: ReadSlice<'de>> RoundTrip<'de, R> for Row {
         (buffer_only s (λ w. buffer_bytes w) (buffer_bytes v.11))
         (rows_cons s _ _ (λ j. Only (⟦<BTreeMap<String, u32> as Deserialize<'de, R>>⟧.reads s.human R.lends)
         ⟦<BTreeMap<String, u32> as RoundTrip<'de, R>>⟧.same j v.12) _
-        (map_only (⟦<String as Deserialize<'de, R>>⟧.reads s.human R.lends) (⟦<u32 as Deserialize<'de, R>>⟧.reads s.human R.lends)
-        ⟦<String as RoundTrip<'de, R>>⟧.same ⟦<u32 as RoundTrip<'de, R>>⟧.same s _ (λ w. w.entries) ⟦<String as Ord>⟧.cmp v.12.entries
-        (pairs_row s (λ x. ⟦<String as Serialize>⟧.data_of x s.human) (λ x. ⟦<u32 as Serialize>⟧.data_of x s.human) ⟦<String as Serialize>⟧.is_value
-        ⟦<u32 as Serialize>⟧.is_value (Only (⟦<String as Deserialize<'de, R>>⟧.reads s.human R.lends) ⟦<String as RoundTrip<'de, R>>⟧.same)
+        (entries_only (⟦<String as Deserialize<'de, R>>⟧.reads s.human R.lends) (⟦<u32 as Deserialize<'de, R>>⟧.reads s.human R.lends)
+        ⟦<String as RoundTrip<'de, R>>⟧.same ⟦<u32 as RoundTrip<'de, R>>⟧.same s _ (λ w. w.entries) {cmp = ⟦<String as Ord>⟧.cmp}
+        (on_total (λ x. string_bytes x) nat_list_cmp_total) (λ x y e. tied (slice_cmp nat_cmp) nat_list_cmp_total (string_bytes x) (string_bytes y) e)
+        v.12.entries fits.12.1 (pairs_row s (λ x. ⟦<String as Serialize>⟧.data_of x s.human) (λ x. ⟦<u32 as Serialize>⟧.data_of x s.human)
+        ⟦<String as Serialize>⟧.is_value ⟦<u32 as Serialize>⟧.is_value
+        (Only (⟦<String as Deserialize<'de, R>>⟧.reads s.human R.lends) ⟦<String as RoundTrip<'de, R>>⟧.same)
         (Only (⟦<u32 as Deserialize<'de, R>>⟧.reads s.human R.lends) ⟦<u32 as RoundTrip<'de, R>>⟧.same)
         (λ x5 h5. (string_only s (λ w. string_bytes w) (string_bytes x5))) (λ x6 h6. (unsigned_only s 4294967295 x6)) v.12.entries fits.12.0))
         (rows_cons s _ _ (λ j. Only (⟦<i128 as Deserialize<'de, R>>⟧.reads s.human R.lends) ⟦<i128 as RoundTrip<'de, R>>⟧.same j v.13) _
@@ -1019,6 +1053,47 @@ impl<'de, R: ReadSlice<'de>> RoundTrip<'de, R> for Line {
           × ⟦<() as RoundTrip<'de, R>>⟧.same a15 b15 × ⟦<Option<Spot> as RoundTrip<'de, R>>⟧.same a16 b16
     ] };
 
+    ghost alike = { λ human. elim [
+      | the_line.Empty ↦ λ w h. variant_alike (λ x. ⟦<Line as Serialize>⟧.data_of x human) w the_line.Empty h
+          (λ i. Some (unit_variant (codes "Empty")))
+      | the_line.Short a1 a2 a3 a4 a5 a6 a7 a8 a9 ↦ λ w h. variant_alike
+          (λ x. ⟦<Line as Serialize>⟧.data_of x human) w (the_line.Short h.0 h.1 h.2 h.3 h.4 h.5 h.6 h.7 h.8) h.9
+          (λ i. tuple_variant_of (codes "Short") ((⟦<u8 as Serialize>⟧.data_of (h.10 i) human)
+          ∷ ((text_alike (string_bytes a2) (string_bytes h.1) h.11 i)
+          ∷ ((⟦<i16 as Serialize>⟧.data_of (h.12 i) human) ∷
+          ((option_alike ⟦<u16 as RoundTrip<'de, R>>⟧.same (λ x. ⟦<u16 as Serialize>⟧.data_of x human)
+          (λ x12 yx12 h12 i. (⟦<u16 as Serialize>⟧.data_of (h12 i) human)) a4 h.3 h.13 i)
+          ∷ ((⟦<bool as Serialize>⟧.data_of (h.14 i) human) ∷
+          ((slice_alike ⟦<u16 as RoundTrip<'de, R>>⟧.same (λ x. ⟦<u16 as Serialize>⟧.data_of x human)
+          (λ x13 yx13 h13 i. (⟦<u16 as Serialize>⟧.data_of (h13 i) human)) a6.items h.5.items h.15 i)
+          ∷ ((⟦<char as Serialize>⟧.data_of (h.16 i) human) ∷
+          ((spot_rounds.alike-law R.row R.ReadSlice.own (given 0) R.Source (given 0) human a8 h.7 h.17 i)
+          ∷ ((⟦<u32 as Serialize>⟧.data_of (h.18 i) human) ∷ []))))))))))
+      | the_line.Long a1 a2 a3 a4 a5 a6 a7 a8 a9 a10 a11 a12 a13 a14 a15 a16 ↦ λ w h.
+          variant_alike (λ x. ⟦<Line as Serialize>⟧.data_of x human) w (the_line.Long h.0 h.1 h.2 h.3 h.4 h.5 h.6 h.7 h.8 h.9 h.10 h.11 h.12 h.13 h.14 h.15)
+          h.16 (λ i. tuple_variant_of (codes "Long") ((⟦<u64 as Serialize>⟧.data_of (h.17 i) human)
+          ∷ ((text_alike (string_bytes a2) (string_bytes h.1) h.18 i)
+          ∷ ((⟦<i32 as Serialize>⟧.data_of (h.19 i) human) ∷
+          ((option_alike ⟦<u16 as RoundTrip<'de, R>>⟧.same (λ x. ⟦<u16 as Serialize>⟧.data_of x human)
+          (λ x14 yx14 h14 i. (⟦<u16 as Serialize>⟧.data_of (h14 i) human)) a4 h.3 h.20 i)
+          ∷ ((⟦<bool as Serialize>⟧.data_of (h.21 i) human) ∷
+          ((⟦<char as Serialize>⟧.data_of (h.22 i) human) ∷ ((float64_alike a7.0 h.6.0 h.23 i)
+          ∷ ((slice_alike ⟦<u16 as RoundTrip<'de, R>>⟧.same (λ x. ⟦<u16 as Serialize>⟧.data_of x human)
+          (λ x15 yx15 h15 i. (⟦<u16 as Serialize>⟧.data_of (h15 i) human)) a8.items h.7.items h.24 i)
+          ∷ ((array_alike ⟦<u16 as RoundTrip<'de, R>>⟧.same (λ x. ⟦<u16 as Serialize>⟧.data_of x human)
+          (λ x16 yx16 h16 i. (⟦<u16 as Serialize>⟧.data_of (h16 i) human)) a9 h.8 h.25 i)
+          ∷ ((spot_rounds.alike-law R.row R.ReadSlice.own (given 0) R.Source (given 0) human a10 h.9 h.26 i)
+          ∷ ((tuple_of ((⟦<u8 as Serialize>⟧.data_of (h.27.0 i) human) ∷ ((text_alike (string_bytes a11.1) (string_bytes h.10.1) h.27.1 i) ∷ [])))
+          ∷ ((bytes_alike (buffer_bytes a12) (buffer_bytes h.11) h.28 i)
+          ∷ ((mapping_alike ⟦<String as RoundTrip<'de, R>>⟧.same (λ x. ⟦<String as Serialize>⟧.data_of x human)
+          (λ x17 yx17 h17 i. (text_alike (string_bytes x17) (string_bytes yx17) h17 i)) ⟦<u32 as RoundTrip<'de, R>>⟧.same
+          (λ x. ⟦<u32 as Serialize>⟧.data_of x human) (λ x18 yx18 h18 i. (⟦<u32 as Serialize>⟧.data_of (h18 i) human)) a13.entries h.12.entries h.29 i)
+          ∷ ((⟦<i128 as Serialize>⟧.data_of (h.30 i) human) ∷
+          ((unit_alike i) ∷ ((option_alike ⟦<Spot as RoundTrip<'de, R>>⟧.same (λ x. ⟦<Spot as Serialize>⟧.data_of x human)
+          (λ x19 yx19 h19 i. (spot_rounds.alike-law R.row R.ReadSlice.own (given 0) R.Source (given 0) human x19 yx19 h19 i)) a16 h.15 h.32 i)
+          ∷ [])))))))))))))))))
+    ] };
+
     ghost only = { λ s. let names = codes "Empty" ∷ (codes "Short" ∷ (codes "Long" ∷ []))
         in elim [
           | the_line.Empty ↦ λ fits. lowers_then s (Some (unit_variant (codes "Empty"))) (OfVariant names (AtPlace 0 AnyContent)) (λ m. (w : _)
@@ -1159,10 +1234,12 @@ impl<'de, R: ReadSlice<'de>> RoundTrip<'de, R> for Line {
               (buffer_only s (λ w. buffer_bytes w) (buffer_bytes a12))
               (rows_cons s _ _ (λ j. Only (⟦<BTreeMap<String, u32> as Deserialize<'de, R>>⟧.reads s.human R.lends)
               ⟦<BTreeMap<String, u32> as RoundTrip<'de, R>>⟧.same j a13) _
-              (map_only (⟦<String as Deserialize<'de, R>>⟧.reads s.human R.lends) (⟦<u32 as Deserialize<'de, R>>⟧.reads s.human R.lends)
-              ⟦<String as RoundTrip<'de, R>>⟧.same ⟦<u32 as RoundTrip<'de, R>>⟧.same s _ (λ w. w.entries) ⟦<String as Ord>⟧.cmp a13.entries
-              (pairs_row s (λ x. ⟦<String as Serialize>⟧.data_of x s.human) (λ x. ⟦<u32 as Serialize>⟧.data_of x s.human) ⟦<String as Serialize>⟧.is_value
-              ⟦<u32 as Serialize>⟧.is_value (Only (⟦<String as Deserialize<'de, R>>⟧.reads s.human R.lends) ⟦<String as RoundTrip<'de, R>>⟧.same)
+              (entries_only (⟦<String as Deserialize<'de, R>>⟧.reads s.human R.lends) (⟦<u32 as Deserialize<'de, R>>⟧.reads s.human R.lends)
+              ⟦<String as RoundTrip<'de, R>>⟧.same ⟦<u32 as RoundTrip<'de, R>>⟧.same s _ (λ w. w.entries) {cmp = ⟦<String as Ord>⟧.cmp}
+              (on_total (λ x. string_bytes x) nat_list_cmp_total) (λ x y e. tied (slice_cmp nat_cmp) nat_list_cmp_total (string_bytes x) (string_bytes y) e)
+              a13.entries fits.12.1 (pairs_row s (λ x. ⟦<String as Serialize>⟧.data_of x s.human) (λ x. ⟦<u32 as Serialize>⟧.data_of x s.human)
+              ⟦<String as Serialize>⟧.is_value ⟦<u32 as Serialize>⟧.is_value
+              (Only (⟦<String as Deserialize<'de, R>>⟧.reads s.human R.lends) ⟦<String as RoundTrip<'de, R>>⟧.same)
               (Only (⟦<u32 as Deserialize<'de, R>>⟧.reads s.human R.lends) ⟦<u32 as RoundTrip<'de, R>>⟧.same)
               (λ x8 h8. (string_only s (λ w. string_bytes w) (string_bytes x8))) (λ x9 h9. (unsigned_only s 4294967295 x9)) a13.entries fits.12.0))
               (rows_cons s _ _ (λ j. Only (⟦<i128 as Deserialize<'de, R>>⟧.reads s.human R.lends) ⟦<i128 as RoundTrip<'de, R>>⟧.same j a14) _
@@ -1340,6 +1417,314 @@ impl<'de, R: ReadSlice<'de>> EndsInside<'de, R> for Line {
                 ),
               )),
           tt,
+        ),
+      ),
+    ) };
+}
+
+impl Serialize for Papers {
+    ghost data_of = { λ v human. structure_of ((codes "number", ⟦<u64 as Serialize>⟧.data_of v.number human)
+        ∷ ((codes "name", ⟦<String as Serialize>⟧.data_of v.name human)
+        ∷ ((codes "born", ⟦<u16 as Serialize>⟧.data_of v.born human)
+        ∷ ((codes "chip", ⟦<Option<u64> as Serialize>⟧.data_of v.chip human)
+        ∷ ((codes "mother", ⟦<Option<u64> as Serialize>⟧.data_of v.mother human)
+        ∷ ((codes "father", ⟦<Option<u64> as Serialize>⟧.data_of v.father human)
+        ∷ ((codes "weight", ⟦<u8 as Serialize>⟧.data_of v.weight human)
+        ∷ ((codes "height", ⟦<i8 as Serialize>⟧.data_of v.height human)
+        ∷ ((codes "vaccinated", ⟦<bool as Serialize>⟧.data_of v.vaccinated human) ∷ []))))))))) };
+
+    ghost is_value = { λ v. ⟦<u64 as Serialize>⟧.is_value v.number × ⟦<String as Serialize>⟧.is_value v.name × ⟦<u16 as Serialize>⟧.is_value v.born
+        × ⟦<Option<u64> as Serialize>⟧.is_value v.chip × ⟦<Option<u64> as Serialize>⟧.is_value v.mother × ⟦<Option<u64> as Serialize>⟧.is_value v.father
+        × ⟦<u8 as Serialize>⟧.is_value v.weight × ⟦<i8 as Serialize>⟧.is_value v.height × ⟦<bool as Serialize>⟧.is_value v.vaccinated };
+
+    ghost takes_memory = { λ s. one_of (⟦<u64 as Serialize>⟧.takes_memory s
+        ∷ (⟦<String as Serialize>⟧.takes_memory s ∷ (⟦<u16 as Serialize>⟧.takes_memory s
+        ∷ (⟦<Option<u64> as Serialize>⟧.takes_memory s ∷ (⟦<Option<u64> as Serialize>⟧.takes_memory s
+        ∷ (⟦<Option<u64> as Serialize>⟧.takes_memory s ∷ (⟦<u8 as Serialize>⟧.takes_memory s
+        ∷ (⟦<i8 as Serialize>⟧.takes_memory s ∷ (⟦<bool as Serialize>⟧.takes_memory s ∷ []))))))))) };
+
+    ghost refuses = { λ v. OfParts ⊥ (⟦<u64 as Serialize>⟧.refuses v.number
+        ∷ (⟦<String as Serialize>⟧.refuses v.name ∷ (⟦<u16 as Serialize>⟧.refuses v.born
+        ∷ (⟦<Option<u64> as Serialize>⟧.refuses v.chip ∷ (⟦<Option<u64> as Serialize>⟧.refuses v.mother
+        ∷ (⟦<Option<u64> as Serialize>⟧.refuses v.father ∷
+        (⟦<u8 as Serialize>⟧.refuses v.weight ∷ (⟦<i8 as Serialize>⟧.refuses v.height ∷ (⟦<bool as Serialize>⟧.refuses v.vaccinated ∷ []))))))))) };
+
+    fn serialize<W: Sink, C: SerializerConfig>(
+        &self,
+        se: &mut Serializer<W, C>,
+    ) -> Result<(), rmp_encode::Error> {
+        let parts = NineParts {
+            first: &self.number,
+            second: &self.name,
+            third: &self.born,
+            fourth: &self.chip,
+            fifth: &self.mother,
+            sixth: &self.father,
+            seventh: &self.weight,
+            eighth: &self.height,
+            ninth: &self.vaccinated,
+        };
+        se.serialize_fields(
+            "Papers",
+            &[
+                "number",
+                "name",
+                "born",
+                "chip",
+                "mother",
+                "father",
+                "weight",
+                "height",
+                "vaccinated",
+            ],
+            &parts,
+        )
+    }
+
+    #[tactic(auto, using(rmp_encode::proofs::Fields::structure_no_byte))]
+    fn as_u8(&self, _human: bool) -> Option<u8> {
+        None
+    }
+}
+
+impl<'de, R: ReadSlice<'de>> Deserialize<'de, R> for Papers {
+    ghost reads = { λ human lends m v. OfFields (codes "number"
+        ∷ (codes "name" ∷ (codes "born" ∷ (codes "chip" ∷ (codes "mother"
+        ∷ (codes "father" ∷ (codes "weight" ∷ (codes "height" ∷ (codes "vaccinated" ∷ [])))))))))
+        (Field (λ j. ⟦<u64 as Deserialize<'de, R>>⟧.reads human lends j v.number) (Absent ⟦<u64 as Deserialize<'de, R>>⟧.absent v.number)
+        (Field (λ j. ⟦<String as Deserialize<'de, R>>⟧.reads human lends j v.name) (Absent ⟦<String as Deserialize<'de, R>>⟧.absent v.name)
+        (Field (λ j. ⟦<u16 as Deserialize<'de, R>>⟧.reads human lends j v.born) (Absent ⟦<u16 as Deserialize<'de, R>>⟧.absent v.born)
+        (Field (λ j. ⟦<Option<u64> as Deserialize<'de, R>>⟧.reads human lends j v.chip) (Absent ⟦<Option<u64> as Deserialize<'de, R>>⟧.absent v.chip)
+        (Field (λ j. ⟦<Option<u64> as Deserialize<'de, R>>⟧.reads human lends j v.mother) (Absent ⟦<Option<u64> as Deserialize<'de, R>>⟧.absent v.mother)
+        (Field (λ j. ⟦<Option<u64> as Deserialize<'de, R>>⟧.reads human lends j v.father) (Absent ⟦<Option<u64> as Deserialize<'de, R>>⟧.absent v.father)
+        (Field (λ j. ⟦<u8 as Deserialize<'de, R>>⟧.reads human lends j v.weight) (Absent ⟦<u8 as Deserialize<'de, R>>⟧.absent v.weight)
+        (Field (λ j. ⟦<i8 as Deserialize<'de, R>>⟧.reads human lends j v.height) (Absent ⟦<i8 as Deserialize<'de, R>>⟧.absent v.height)
+        (Field (λ j. ⟦<bool as Deserialize<'de, R>>⟧.reads human lends j v.vaccinated) (Absent ⟦<bool as Deserialize<'de, R>>⟧.absent v.vaccinated)
+        NoField))))))))) m };
+
+    ghost absent = { None };
+
+    ghost refuses = { RefusesFields (codes "number" ∷ (codes "name"
+        ∷ (codes "born" ∷ (codes "chip" ∷ (codes "mother" ∷ (codes "father" ∷ (codes "weight" ∷ (codes "height" ∷ (codes "vaccinated" ∷ [])))))))))
+        (is_none ⟦<u64 as Deserialize<'de, R>>⟧.absent ∷ (is_none ⟦<String as Deserialize<'de, R>>⟧.absent
+        ∷ (is_none ⟦<u16 as Deserialize<'de, R>>⟧.absent ∷
+        (is_none ⟦<Option<u64> as Deserialize<'de, R>>⟧.absent
+        ∷ (is_none ⟦<Option<u64> as Deserialize<'de, R>>⟧.absent
+        ∷ (is_none ⟦<Option<u64> as Deserialize<'de, R>>⟧.absent
+        ∷ (is_none ⟦<u8 as Deserialize<'de, R>>⟧.absent ∷ (is_none ⟦<i8 as Deserialize<'de, R>>⟧.absent
+        ∷ (is_none ⟦<bool as Deserialize<'de, R>>⟧.absent ∷ [])))))))))
+        (part_of ⟦<u64 as Deserialize<'de, R>>⟧.reads ⟦<u64 as Deserialize<'de, R>>⟧.refuses
+        ∷ (part_of ⟦<String as Deserialize<'de, R>>⟧.reads ⟦<String as Deserialize<'de, R>>⟧.refuses
+        ∷ (part_of ⟦<u16 as Deserialize<'de, R>>⟧.reads ⟦<u16 as Deserialize<'de, R>>⟧.refuses
+        ∷ (part_of ⟦<Option<u64> as Deserialize<'de, R>>⟧.reads ⟦<Option<u64> as Deserialize<'de, R>>⟧.refuses
+        ∷ (part_of ⟦<Option<u64> as Deserialize<'de, R>>⟧.reads ⟦<Option<u64> as Deserialize<'de, R>>⟧.refuses
+        ∷ (part_of ⟦<Option<u64> as Deserialize<'de, R>>⟧.reads ⟦<Option<u64> as Deserialize<'de, R>>⟧.refuses
+        ∷ (part_of ⟦<u8 as Deserialize<'de, R>>⟧.reads ⟦<u8 as Deserialize<'de, R>>⟧.refuses
+        ∷ (part_of ⟦<i8 as Deserialize<'de, R>>⟧.reads ⟦<i8 as Deserialize<'de, R>>⟧.refuses
+        ∷ (part_of ⟦<bool as Deserialize<'de, R>>⟧.reads ⟦<bool as Deserialize<'de, R>>⟧.refuses ∷ []))))))))) };
+
+    fn deserialize<C: SerializerConfig>(
+        de: &mut Deserializer<R, C>,
+    ) -> Result<Papers, rmp_decode::Error> {
+        let read: Result<
+            (
+                u64,
+                String,
+                u16,
+                Option<u64>,
+                (Option<u64>, Option<u64>, u8, i8, (bool, ())),
+            ),
+            rmp_decode::Error,
+        > = rmp_decode::read_fields_9(
+            de,
+            &[
+                "number",
+                "name",
+                "born",
+                "chip",
+                "mother",
+                "father",
+                "weight",
+                "height",
+                "vaccinated",
+            ],
+        );
+        match read {
+            Ok(parts) => {
+                let (number, name, born, chip, (mother, father, weight, height, (vaccinated, ()))) =
+                    parts;
+                return Ok(Papers {
+                    number,
+                    name,
+                    born,
+                    chip,
+                    mother,
+                    father,
+                    weight,
+                    height,
+                    vaccinated,
+                });
+            }
+            Err(e) => return Err(e),
+        }
+    }
+
+    fn missing() -> Option<Papers> {
+        None
+    }
+}
+
+impl<'de, R: ReadSlice<'de>> RoundTrip<'de, R> for Papers {
+    ghost has_data = { λ human v. structure_all ((codes "number", ⟦<u64 as Serialize>⟧.data_of v.number human)
+        ∷ ((codes "name", ⟦<String as Serialize>⟧.data_of v.name human)
+        ∷ ((codes "born", ⟦<u16 as Serialize>⟧.data_of v.born human)
+        ∷ ((codes "chip", ⟦<Option<u64> as Serialize>⟧.data_of v.chip human)
+        ∷ ((codes "mother", ⟦<Option<u64> as Serialize>⟧.data_of v.mother human)
+        ∷ ((codes "father", ⟦<Option<u64> as Serialize>⟧.data_of v.father human)
+        ∷ ((codes "weight", ⟦<u8 as Serialize>⟧.data_of v.weight human)
+        ∷ ((codes "height", ⟦<i8 as Serialize>⟧.data_of v.height human)
+        ∷ ((codes "vaccinated", ⟦<bool as Serialize>⟧.data_of v.vaccinated human) ∷ []))))))))) (
+          refl,
+          (
+            refl,
+            (
+              refl,
+              (
+                (option_some (λ x. ⟦<u64 as Serialize>⟧.data_of x human) (λ x1. refl) v.chip),
+                (
+                  (option_some (λ x. ⟦<u64 as Serialize>⟧.data_of x human) (λ x2. refl) v.mother),
+                  ((option_some (λ x. ⟦<u64 as Serialize>⟧.data_of x human) (λ x3. refl) v.father), (refl, (refl, (refl, tt)))),
+                ),
+              ),
+            ),
+          ),
+        ) };
+
+    ghost round = { λ lent s v fits. structure_row s (codes "number"
+        ∷ (codes "name" ∷ (codes "born" ∷ (codes "chip" ∷ (codes "mother"
+        ∷ (codes "father" ∷ (codes "weight" ∷ (codes "height" ∷ (codes "vaccinated" ∷ []))))))))) _ _ refl
+        (fields_cons s (codes "number") _ _ _ (λ j. ⟦<u64 as Deserialize<'de, R>>⟧.reads s.human R.lends j v.number)
+        (Absent ⟦<u64 as Deserialize<'de, R>>⟧.absent v.number) _ (unsigned_row_64 s v.number fits.0)
+        (fields_cons s (codes "name") _ _ _ (λ j. ⟦<String as Deserialize<'de, R>>⟧.reads s.human R.lends j v.name)
+        (Absent ⟦<String as Deserialize<'de, R>>⟧.absent v.name) _ (string_row s (string_bytes v.name))
+        (fields_cons s (codes "born") _ _ _ (λ j. ⟦<u16 as Deserialize<'de, R>>⟧.reads s.human R.lends j v.born)
+        (Absent ⟦<u16 as Deserialize<'de, R>>⟧.absent v.born) _ (unsigned_row_16 s v.born fits.2)
+        (fields_cons s (codes "chip") _ _ _ (λ j. ⟦<Option<u64> as Deserialize<'de, R>>⟧.reads s.human R.lends j v.chip)
+        (Absent ⟦<Option<u64> as Deserialize<'de, R>>⟧.absent v.chip) _
+        (option_row s (λ x. ⟦<u64 as Serialize>⟧.data_of x s.human) ⟦<u64 as Serialize>⟧.is_value (⟦<u64 as Deserialize<'de, R>>⟧.reads s.human R.lends)
+        (λ x5. pos_other s x5) (λ x4 h4. (unsigned_row_64 s x4 h4)) v.chip fits.3)
+        (fields_cons s (codes "mother") _ _ _ (λ j. ⟦<Option<u64> as Deserialize<'de, R>>⟧.reads s.human R.lends j v.mother)
+        (Absent ⟦<Option<u64> as Deserialize<'de, R>>⟧.absent v.mother) _
+        (option_row s (λ x. ⟦<u64 as Serialize>⟧.data_of x s.human) ⟦<u64 as Serialize>⟧.is_value (⟦<u64 as Deserialize<'de, R>>⟧.reads s.human R.lends)
+        (λ x7. pos_other s x7) (λ x6 h6. (unsigned_row_64 s x6 h6)) v.mother fits.4)
+        (fields_cons s (codes "father") _ _ _ (λ j. ⟦<Option<u64> as Deserialize<'de, R>>⟧.reads s.human R.lends j v.father)
+        (Absent ⟦<Option<u64> as Deserialize<'de, R>>⟧.absent v.father) _
+        (option_row s (λ x. ⟦<u64 as Serialize>⟧.data_of x s.human) ⟦<u64 as Serialize>⟧.is_value (⟦<u64 as Deserialize<'de, R>>⟧.reads s.human R.lends)
+        (λ x9. pos_other s x9) (λ x8 h8. (unsigned_row_64 s x8 h8)) v.father fits.5)
+        (fields_cons s (codes "weight") _ _ _ (λ j. ⟦<u8 as Deserialize<'de, R>>⟧.reads s.human R.lends j v.weight)
+        (Absent ⟦<u8 as Deserialize<'de, R>>⟧.absent v.weight) _ (byte_row s v.weight fits.6)
+        (fields_cons s (codes "height") _ _ _ (λ j. ⟦<i8 as Deserialize<'de, R>>⟧.reads s.human R.lends j v.height)
+        (Absent ⟦<i8 as Deserialize<'de, R>>⟧.absent v.height) _ (signed_row_8 s v.height fits.7)
+        (fields_cons s (codes "vaccinated") _ _ _ (λ j. ⟦<bool as Deserialize<'de, R>>⟧.reads s.human R.lends j v.vaccinated)
+        (Absent ⟦<bool as Deserialize<'de, R>>⟧.absent v.vaccinated) _ (truth_row s v.vaccinated) (fields_none s)))))))))) };
+
+    ghost same = { λ v w. ⟦<u64 as RoundTrip<'de, R>>⟧.same v.number w.number × ⟦<String as RoundTrip<'de, R>>⟧.same v.name w.name
+        × ⟦<u16 as RoundTrip<'de, R>>⟧.same v.born w.born × ⟦<Option<u64> as RoundTrip<'de, R>>⟧.same v.chip w.chip
+        × ⟦<Option<u64> as RoundTrip<'de, R>>⟧.same v.mother w.mother × ⟦<Option<u64> as RoundTrip<'de, R>>⟧.same v.father w.father
+        × ⟦<u8 as RoundTrip<'de, R>>⟧.same v.weight w.weight × ⟦<i8 as RoundTrip<'de, R>>⟧.same v.height w.height
+        × ⟦<bool as RoundTrip<'de, R>>⟧.same v.vaccinated w.vaccinated };
+
+    ghost alike = { λ human v w h i. structure_of ((codes "number", (⟦<u64 as Serialize>⟧.data_of (h.0 i) human))
+        ∷ ((codes "name", (text_alike (string_bytes v.name) (string_bytes w.name) h.1 i))
+        ∷ ((codes "born", (⟦<u16 as Serialize>⟧.data_of (h.2 i) human))
+        ∷ ((
+          codes "chip",
+          (option_alike ⟦<u64 as RoundTrip<'de, R>>⟧.same (λ x. ⟦<u64 as Serialize>⟧.data_of x human)
+              (λ x7 yx7 h7 i. (⟦<u64 as Serialize>⟧.data_of (h7 i) human)) v.chip w.chip h.3 i),
+        )
+        ∷ ((
+          codes "mother",
+          (option_alike ⟦<u64 as RoundTrip<'de, R>>⟧.same (λ x. ⟦<u64 as Serialize>⟧.data_of x human)
+              (λ x8 yx8 h8 i. (⟦<u64 as Serialize>⟧.data_of (h8 i) human)) v.mother w.mother h.4 i),
+        )
+        ∷ ((
+          codes "father",
+          (option_alike ⟦<u64 as RoundTrip<'de, R>>⟧.same (λ x. ⟦<u64 as Serialize>⟧.data_of x human)
+              (λ x9 yx9 h9 i. (⟦<u64 as Serialize>⟧.data_of (h9 i) human)) v.father w.father h.5 i),
+        )
+        ∷ ((codes "weight", (⟦<u8 as Serialize>⟧.data_of (h.6 i) human))
+        ∷ ((codes "height", (⟦<i8 as Serialize>⟧.data_of (h.7 i) human))
+        ∷ ((codes "vaccinated", (⟦<bool as Serialize>⟧.data_of (h.8 i) human)) ∷ []))))))))) };
+
+    ghost only = { λ s v fits. lowers_then s _ _ (λ m. (w : _) → (⟦<Papers as Deserialize<'de, R>>⟧.reads s.human R.lends) m w
+        → ⟦<u64 as RoundTrip<'de, R>>⟧.same v.number w.number × ⟦<String as RoundTrip<'de, R>>⟧.same v.name w.name
+        × ⟦<u16 as RoundTrip<'de, R>>⟧.same v.born w.born × ⟦<Option<u64> as RoundTrip<'de, R>>⟧.same v.chip w.chip
+        × ⟦<Option<u64> as RoundTrip<'de, R>>⟧.same v.mother w.mother × ⟦<Option<u64> as RoundTrip<'de, R>>⟧.same v.father w.father
+        × ⟦<u8 as RoundTrip<'de, R>>⟧.same v.weight w.weight × ⟦<i8 as RoundTrip<'de, R>>⟧.same v.height w.height
+        × ⟦<bool as RoundTrip<'de, R>>⟧.same v.vaccinated w.vaccinated)
+        (structure_row s (codes "number" ∷ (codes "name" ∷
+        (codes "born" ∷ (codes "chip" ∷ (codes "mother" ∷ (codes "father" ∷ (codes "weight" ∷ (codes "height" ∷ (codes "vaccinated" ∷ []))))))))) _ _ refl
+        (fields_cons s (codes "number") _ _ _ (λ j. Only (⟦<u64 as Deserialize<'de, R>>⟧.reads s.human R.lends) ⟦<u64 as RoundTrip<'de, R>>⟧.same j
+        v.number) ⊥ _ (unsigned_only s 18446744073709551615 v.number)
+        (fields_cons s (codes "name") _ _ _ (λ j. Only (⟦<String as Deserialize<'de, R>>⟧.reads s.human R.lends) ⟦<String as RoundTrip<'de, R>>⟧.same j
+        v.name) ⊥ _ (string_only s (λ w. string_bytes w) (string_bytes v.name))
+        (fields_cons s (codes "born") _ _ _ (λ j. Only (⟦<u16 as Deserialize<'de, R>>⟧.reads s.human R.lends) ⟦<u16 as RoundTrip<'de, R>>⟧.same j v.born) ⊥
+        _ (unsigned_only s 65535 v.born) (fields_cons s (codes "chip") _ _ _
+        (λ j. Only (⟦<Option<u64> as Deserialize<'de, R>>⟧.reads s.human R.lends) ⟦<Option<u64> as RoundTrip<'de, R>>⟧.same j v.chip) ⊥ _
+        (option_only s _ (⟦<u64 as Deserialize<'de, R>>⟧.reads s.human R.lends) ⟦<u64 as RoundTrip<'de, R>>⟧.same v.chip
+        (option_row s (λ x. ⟦<u64 as Serialize>⟧.data_of x s.human) ⟦<u64 as Serialize>⟧.is_value
+        (Only (⟦<u64 as Deserialize<'de, R>>⟧.reads s.human R.lends) ⟦<u64 as RoundTrip<'de, R>>⟧.same) (λ x2. pos_other s x2)
+        (λ x1 h1. (unsigned_only s 18446744073709551615 x1)) v.chip fits.3))
+        (fields_cons s (codes "mother") _ _ _ (λ j. Only (⟦<Option<u64> as Deserialize<'de, R>>⟧.reads s.human R.lends)
+        ⟦<Option<u64> as RoundTrip<'de, R>>⟧.same j v.mother) ⊥ _
+        (option_only s _ (⟦<u64 as Deserialize<'de, R>>⟧.reads s.human R.lends) ⟦<u64 as RoundTrip<'de, R>>⟧.same v.mother
+        (option_row s (λ x. ⟦<u64 as Serialize>⟧.data_of x s.human) ⟦<u64 as Serialize>⟧.is_value
+        (Only (⟦<u64 as Deserialize<'de, R>>⟧.reads s.human R.lends) ⟦<u64 as RoundTrip<'de, R>>⟧.same) (λ x4. pos_other s x4)
+        (λ x3 h3. (unsigned_only s 18446744073709551615 x3)) v.mother fits.4))
+        (fields_cons s (codes "father") _ _ _ (λ j. Only (⟦<Option<u64> as Deserialize<'de, R>>⟧.reads s.human R.lends)
+        ⟦<Option<u64> as RoundTrip<'de, R>>⟧.same j v.father) ⊥ _
+        (option_only s _ (⟦<u64 as Deserialize<'de, R>>⟧.reads s.human R.lends) ⟦<u64 as RoundTrip<'de, R>>⟧.same v.father
+        (option_row s (λ x. ⟦<u64 as Serialize>⟧.data_of x s.human) ⟦<u64 as Serialize>⟧.is_value
+        (Only (⟦<u64 as Deserialize<'de, R>>⟧.reads s.human R.lends) ⟦<u64 as RoundTrip<'de, R>>⟧.same) (λ x6. pos_other s x6)
+        (λ x5 h5. (unsigned_only s 18446744073709551615 x5)) v.father fits.5))
+        (fields_cons s (codes "weight") _ _ _ (λ j. Only (⟦<u8 as Deserialize<'de, R>>⟧.reads s.human R.lends) ⟦<u8 as RoundTrip<'de, R>>⟧.same j v.weight)
+        ⊥ _ (byte_only s v.weight) (fields_cons s (codes "height") _ _ _
+        (λ j. Only (⟦<i8 as Deserialize<'de, R>>⟧.reads s.human R.lends) ⟦<i8 as RoundTrip<'de, R>>⟧.same j v.height) ⊥ _
+        (signed_only s (negsuc 127) (pos 127) v.height) (fields_cons s (codes "vaccinated") _ _ _
+        (λ j. Only (⟦<bool as Deserialize<'de, R>>⟧.reads s.human R.lends) ⟦<bool as RoundTrip<'de, R>>⟧.same j v.vaccinated) ⊥ _
+        (truth_only s v.vaccinated) (fields_none s)))))))))))
+        (λ m q w r. fields_both (codes "number" ∷ (codes "name"
+        ∷ (codes "born" ∷ (codes "chip" ∷ (codes "mother" ∷ (codes "father" ∷ (codes "weight" ∷ (codes "height" ∷ (codes "vaccinated" ∷ []))))))))) _ _ _ m
+        q r (λ ks i j. let x = field_only (⟦<u64 as Deserialize<'de, R>>⟧.reads s.human R.lends) ⟦<u64 as RoundTrip<'de, R>>⟧.same v.number w.number _ _ _ _
+        (field_only (⟦<String as Deserialize<'de, R>>⟧.reads s.human R.lends) ⟦<String as RoundTrip<'de, R>>⟧.same v.name w.name _ _ _ _
+        (field_only (⟦<u16 as Deserialize<'de, R>>⟧.reads s.human R.lends) ⟦<u16 as RoundTrip<'de, R>>⟧.same v.born w.born _ _ _ _
+        (field_only (⟦<Option<u64> as Deserialize<'de, R>>⟧.reads s.human R.lends) ⟦<Option<u64> as RoundTrip<'de, R>>⟧.same v.chip w.chip _ _ _ _
+        (field_only (⟦<Option<u64> as Deserialize<'de, R>>⟧.reads s.human R.lends) ⟦<Option<u64> as RoundTrip<'de, R>>⟧.same v.mother w.mother _ _ _ _
+        (field_only (⟦<Option<u64> as Deserialize<'de, R>>⟧.reads s.human R.lends) ⟦<Option<u64> as RoundTrip<'de, R>>⟧.same v.father w.father _ _ _ _
+        (field_only (⟦<u8 as Deserialize<'de, R>>⟧.reads s.human R.lends) ⟦<u8 as RoundTrip<'de, R>>⟧.same v.weight w.weight _ _ _ _
+        (field_only (⟦<i8 as Deserialize<'de, R>>⟧.reads s.human R.lends) ⟦<i8 as RoundTrip<'de, R>>⟧.same v.height w.height _ _ _ _
+        (last_field (⟦<bool as Deserialize<'de, R>>⟧.reads s.human R.lends) ⟦<bool as RoundTrip<'de, R>>⟧.same v.vaccinated w.vaccinated _)))))))) ks i j
+        in (x.0, x.1.0, x.1.1.0, x.1.1.1.0, x.1.1.1.1.0, x.1.1.1.1.1.0, x.1.1.1.1.1.1.0, x.1.1.1.1.1.1.1.0, x.1.1.1.1.1.1.1.1))) };
+}
+
+impl NeverNil for Papers {
+    ghost never_nil = { λ s v. structure_other s _ };
+}
+
+impl<'de, R: ReadSlice<'de>> EndsInside<'de, R> for Papers {
+    ghost ends_inside = { fields_inside _ _ _ (
+      number_inside,
+      (
+        string_inside,
+        (
+          number_inside,
+          (
+            (option_inside ⟦<u64 as Deserialize<'de, R>>⟧.refuses number_inside),
+            (
+              (option_inside ⟦<u64 as Deserialize<'de, R>>⟧.refuses number_inside),
+              ((option_inside ⟦<u64 as Deserialize<'de, R>>⟧.refuses number_inside), (number_inside, (number_inside, (kind_inside, tt)))),
+            ),
+          ),
         ),
       ),
     ) };

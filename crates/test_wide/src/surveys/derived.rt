@@ -1,5 +1,6 @@
 //! How the types of surveys.rt are written and read. Written by tools/derive.py.
 //!
+//! Sum of Chart: 835382a0.
 //! Sum of Survey: bb327ad6.
 ghost use Rattle.rmp_decode.specs.Arrays.{Exactly};
 ghost use Rattle.rmp_decode.specs.FieldRefusing.{RefusesFields};
@@ -9,20 +10,23 @@ ghost use Rattle.rmp_decode.specs.Rows.{ReadsEach};
 ghost use Rattle.rmp_encode.specs.Markers.{value_of};
 ghost use Rattle.rmp_encode.specs.Refusals.{OfParts};
 ghost use Rattle.rmp_encode.specs.Sizes.{one_of};
-ghost use Rattle.rmp_encode.specs.Trees.{structure_of};
+ghost use Rattle.rmp_encode.specs.Trees.{structure_of, tuple_of};
 ghost use Rattle.rmp_ends.specs.BufferEnds.{buffer_inside};
 ghost use Rattle.rmp_ends.specs.FieldEnds.{fields_inside};
 ghost use Rattle.rmp_ends.specs.LeafEnds.{kind_inside, number_inside, nil_inside, signed128_inside, unsigned128_inside, char_inside, string_inside};
 ghost use Rattle.rmp_ends.specs.MapEnds.{map_inside};
 ghost use Rattle.rmp_ends.specs.RowEnds.{array_inside, each_inside, option_inside, tuple_inside};
-ghost use Rattle.rmp_round_trip.specs.LeafRounds.{byte_row, unsigned_row_16, unsigned_row_32, unsigned_row_64, signed_row_16, signed_row_64};
-ghost use Rattle.rmp_round_trip.specs.LeafRounds.{truth_row, unit_row, float64_row, char_row, string_row, buffer_row};
-ghost use Rattle.rmp_round_trip.specs.LeafRounds.{whole_other, truth_other, char_other, text_other};
+ghost use Rattle.rmp_round_trip.specs.AlikeData.{array_alike, bytes_alike, float64_alike, mapping_alike, option_alike};
+ghost use Rattle.rmp_round_trip.specs.AlikeData.{sequence_alike, slice_alike, text_alike, unit_alike};
+ghost use Rattle.rmp_round_trip.specs.AlikeOrder.{tied};
+ghost use Rattle.rmp_round_trip.specs.LeafRounds.{byte_row, unsigned_row_16, unsigned_row_32, unsigned_row_64, signed_row_8, signed_row_16, signed_row_32};
+ghost use Rattle.rmp_round_trip.specs.LeafRounds.{pos_other, whole_other, truth_other, char_other, text_other};
+ghost use Rattle.rmp_round_trip.specs.LeafRounds.{signed_row_64, truth_row, unit_row, float64_row, char_row, string_row, buffer_row};
 ghost use Rattle.rmp_round_trip.specs.MapRounds.{mapping_some, map_row, pairs_row, set_row};
 ghost use Rattle.rmp_round_trip.specs.OnlyFields.{field_only, fields_both, last_field};
 ghost use Rattle.rmp_round_trip.specs.OnlyLeaves.{unit_only, truth_only, byte_only, unsigned_only, signed_only, float64_only};
 ghost use Rattle.rmp_round_trip.specs.OnlyLeaves.{unsigned128_only, signed128_only, char_only, string_only, buffer_only};
-ghost use Rattle.rmp_round_trip.specs.OnlyMaps.{map_only, set_only};
+ghost use Rattle.rmp_round_trip.specs.OnlyMaps.{entries_only, set_only};
 ghost use Rattle.rmp_round_trip.specs.OnlyRows.{array_only, item_only, last_only, list_only, lowers_then, option_only, row_both};
 ghost use Rattle.rmp_round_trip.specs.RoundTrip.{Only};
 ghost use Rattle.rmp_round_trip.specs.Rounds.{each_some, each_row, rows_map, option_some, option_row, slice_some, slice_row};
@@ -32,17 +36,496 @@ ghost use Rattle.rmp_round_trip.specs.WideRounds.{unsigned128_row, signed128_row
 ghost use Rattle.rmp_wire.specs.Types.{buffer_bytes};
 ghost use Rattle.std.proofs.Common.{refl, rules};
 ghost use Rattle.std.proofs.lemmas.Cmp.{on_total, nat_list_cmp_total};
+ghost use Rattle.std.specs.Cmp.Lexicographic.{slice_cmp};
 ghost use Rattle.std.specs.Cmp.Rules.{comparing};
 ghost use Rattle.std.specs.Option.{is_none};
+ghost use Rattle.std.specs.Ordering.{nat_cmp};
 ghost use Rattle.std.specs.Prelude.{◌∷◌, [], None, codes, string_bytes, pos, negsuc};
 
-use super::{BTreeMap, BTreeSet, ByteBuf, Course, F64Bits, Spot, Survey};
-use rmp_decode::{Deserialize, Deserializer, SixteenThen};
+use super::{BTreeMap, BTreeSet, ByteBuf, Chart, Course, F64Bits, Spot, Survey};
+use rmp_decode::{Deserialize, Deserializer, ReadFields, SixteenThen};
 use rmp_encode::{Elements, Serialize, Serializer};
 use rmp_ends::EndsInside;
 use rmp_round_trip::{NeverNil, RoundTrip};
 use rmp_wire::config::SerializerConfig;
 use rmp_wire::{ReadSlice, Sink};
+
+impl Serialize for Chart {
+    ghost data_of = { λ v human. structure_of ((codes "number", ⟦<u64 as Serialize>⟧.data_of v.number human)
+        ∷ ((codes "name", ⟦<String as Serialize>⟧.data_of v.name human)
+        ∷ ((codes "born", ⟦<u16 as Serialize>⟧.data_of v.born human)
+        ∷ ((codes "weight", ⟦<u8 as Serialize>⟧.data_of v.weight human)
+        ∷ ((codes "height", ⟦<i8 as Serialize>⟧.data_of v.height human)
+        ∷ ((codes "fever", ⟦<i16 as Serialize>⟧.data_of v.fever human)
+        ∷ ((codes "offset", ⟦<i32 as Serialize>⟧.data_of v.offset human)
+        ∷ ((codes "balance", ⟦<i64 as Serialize>⟧.data_of v.balance human)
+        ∷ ((codes "neutered", ⟦<bool as Serialize>⟧.data_of v.neutered human)
+        ∷ ((codes "chip", ⟦<Option<u64> as Serialize>⟧.data_of v.chip human)
+        ∷ ((codes "owner", ⟦<Option<String> as Serialize>⟧.data_of v.owner human)
+        ∷ ((codes "shots", ⟦<Vec<u16> as Serialize>⟧.data_of v.shots human)
+        ∷ ((codes "notes", ⟦<Vec<String> as Serialize>⟧.data_of v.notes human)
+        ∷ ((codes "heart", ⟦<u32 as Serialize>⟧.data_of v.heart human)
+        ∷ ((codes "lungs", ⟦<u32 as Serialize>⟧.data_of v.lungs human) ∷ ((codes "last", ⟦<String as Serialize>⟧.data_of v.last human) ∷ [])))))))))))))))) };
+
+    ghost is_value = { λ v. ⟦<u64 as Serialize>⟧.is_value v.number × ⟦<String as Serialize>⟧.is_value v.name × ⟦<u16 as Serialize>⟧.is_value v.born
+        × ⟦<u8 as Serialize>⟧.is_value v.weight × ⟦<i8 as Serialize>⟧.is_value v.height × ⟦<i16 as Serialize>⟧.is_value v.fever
+        × ⟦<i32 as Serialize>⟧.is_value v.offset × ⟦<i64 as Serialize>⟧.is_value v.balance × ⟦<bool as Serialize>⟧.is_value v.neutered
+        × ⟦<Option<u64> as Serialize>⟧.is_value v.chip × ⟦<Option<String> as Serialize>⟧.is_value v.owner × ⟦<Vec<u16> as Serialize>⟧.is_value v.shots
+        × ⟦<Vec<String> as Serialize>⟧.is_value v.notes × ⟦<u32 as Serialize>⟧.is_value v.heart × ⟦<u32 as Serialize>⟧.is_value v.lungs
+        × ⟦<String as Serialize>⟧.is_value v.last };
+
+    ghost takes_memory = { λ s. one_of (⟦<u64 as Serialize>⟧.takes_memory s
+        ∷ (⟦<String as Serialize>⟧.takes_memory s ∷ (⟦<u16 as Serialize>⟧.takes_memory s
+        ∷ (⟦<u8 as Serialize>⟧.takes_memory s ∷ (⟦<i8 as Serialize>⟧.takes_memory s
+        ∷ (⟦<i16 as Serialize>⟧.takes_memory s ∷ (⟦<i32 as Serialize>⟧.takes_memory s
+        ∷ (⟦<i64 as Serialize>⟧.takes_memory s ∷ (⟦<bool as Serialize>⟧.takes_memory s
+        ∷ (⟦<Option<u64> as Serialize>⟧.takes_memory s ∷ (⟦<Option<String> as Serialize>⟧.takes_memory s
+        ∷ (⟦<Vec<u16> as Serialize>⟧.takes_memory s ∷ (⟦<Vec<String> as Serialize>⟧.takes_memory s
+        ∷ (⟦<u32 as Serialize>⟧.takes_memory s ∷ (⟦<u32 as Serialize>⟧.takes_memory s ∷ (⟦<String as Serialize>⟧.takes_memory s ∷ [])))))))))))))))) };
+
+    ghost refuses = { λ v. OfParts ⊥ (⟦<u64 as Serialize>⟧.refuses v.number
+        ∷ (⟦<String as Serialize>⟧.refuses v.name ∷ (⟦<u16 as Serialize>⟧.refuses v.born
+        ∷ (⟦<u8 as Serialize>⟧.refuses v.weight ∷ (⟦<i8 as Serialize>⟧.refuses v.height
+        ∷ (⟦<i16 as Serialize>⟧.refuses v.fever ∷ (⟦<i32 as Serialize>⟧.refuses v.offset
+        ∷ (⟦<i64 as Serialize>⟧.refuses v.balance ∷ (⟦<bool as Serialize>⟧.refuses v.neutered
+        ∷ (⟦<Option<u64> as Serialize>⟧.refuses v.chip ∷ (⟦<Option<String> as Serialize>⟧.refuses v.owner
+        ∷ (⟦<Vec<u16> as Serialize>⟧.refuses v.shots ∷ (⟦<Vec<String> as Serialize>⟧.refuses v.notes
+        ∷ (⟦<u32 as Serialize>⟧.refuses v.heart ∷ (⟦<u32 as Serialize>⟧.refuses v.lungs ∷ (⟦<String as Serialize>⟧.refuses v.last ∷ [])))))))))))))))) };
+
+    fn serialize<W: Sink, C: SerializerConfig>(
+        &self,
+        se: &mut Serializer<W, C>,
+    ) -> Result<(), rmp_encode::Error> {
+        let parts = SixteenParts {
+            first: &self.number,
+            second: &self.name,
+            third: &self.born,
+            fourth: &self.weight,
+            fifth: &self.height,
+            sixth: &self.fever,
+            seventh: &self.offset,
+            eighth: &self.balance,
+            ninth: &self.neutered,
+            tenth: &self.chip,
+            eleventh: &self.owner,
+            twelfth: &self.shots,
+            thirteenth: &self.notes,
+            fourteenth: &self.heart,
+            fifteenth: &self.lungs,
+            sixteenth: &self.last,
+        };
+        se.serialize_fields(
+            "Chart",
+            &[
+                "number", "name", "born", "weight", "height", "fever", "offset", "balance",
+                "neutered", "chip", "owner", "shots", "notes", "heart", "lungs", "last",
+            ],
+            &parts,
+        )
+    }
+
+    #[tactic(auto, using(rmp_encode::proofs::Fields::structure_no_byte))]
+    fn as_u8(&self, _human: bool) -> Option<u8> {
+        None
+    }
+}
+
+impl<'de, R: ReadSlice<'de>> Deserialize<'de, R> for Chart {
+    ghost reads = { λ human lends m v. OfFields (codes "number"
+        ∷ (codes "name" ∷ (codes "born" ∷ (codes "weight" ∷
+        (codes "height" ∷ (codes "fever" ∷ (codes "offset"
+        ∷ (codes "balance" ∷ (codes "neutered" ∷ (codes "chip"
+        ∷ (codes "owner" ∷ (codes "shots" ∷ (codes "notes" ∷ (codes "heart" ∷ (codes "lungs" ∷ (codes "last" ∷ []))))))))))))))))
+        (Field (λ j. ⟦<u64 as Deserialize<'de, R>>⟧.reads human lends j v.number) (Absent ⟦<u64 as Deserialize<'de, R>>⟧.absent v.number)
+        (Field (λ j. ⟦<String as Deserialize<'de, R>>⟧.reads human lends j v.name) (Absent ⟦<String as Deserialize<'de, R>>⟧.absent v.name)
+        (Field (λ j. ⟦<u16 as Deserialize<'de, R>>⟧.reads human lends j v.born) (Absent ⟦<u16 as Deserialize<'de, R>>⟧.absent v.born)
+        (Field (λ j. ⟦<u8 as Deserialize<'de, R>>⟧.reads human lends j v.weight) (Absent ⟦<u8 as Deserialize<'de, R>>⟧.absent v.weight)
+        (Field (λ j. ⟦<i8 as Deserialize<'de, R>>⟧.reads human lends j v.height) (Absent ⟦<i8 as Deserialize<'de, R>>⟧.absent v.height)
+        (Field (λ j. ⟦<i16 as Deserialize<'de, R>>⟧.reads human lends j v.fever) (Absent ⟦<i16 as Deserialize<'de, R>>⟧.absent v.fever)
+        (Field (λ j. ⟦<i32 as Deserialize<'de, R>>⟧.reads human lends j v.offset) (Absent ⟦<i32 as Deserialize<'de, R>>⟧.absent v.offset)
+        (Field (λ j. ⟦<i64 as Deserialize<'de, R>>⟧.reads human lends j v.balance) (Absent ⟦<i64 as Deserialize<'de, R>>⟧.absent v.balance)
+        (Field (λ j. ⟦<bool as Deserialize<'de, R>>⟧.reads human lends j v.neutered) (Absent ⟦<bool as Deserialize<'de, R>>⟧.absent v.neutered)
+        (Field (λ j. ⟦<Option<u64> as Deserialize<'de, R>>⟧.reads human lends j v.chip) (Absent ⟦<Option<u64> as Deserialize<'de, R>>⟧.absent v.chip)
+        (Field (λ j. ⟦<Option<String> as Deserialize<'de, R>>⟧.reads human lends j v.owner)
+        (Absent ⟦<Option<String> as Deserialize<'de, R>>⟧.absent v.owner)
+        (Field (λ j. ⟦<Vec<u16> as Deserialize<'de, R>>⟧.reads human lends j v.shots) (Absent ⟦<Vec<u16> as Deserialize<'de, R>>⟧.absent v.shots)
+        (Field (λ j. ⟦<Vec<String> as Deserialize<'de, R>>⟧.reads human lends j v.notes) (Absent ⟦<Vec<String> as Deserialize<'de, R>>⟧.absent v.notes)
+        (Field (λ j. ⟦<u32 as Deserialize<'de, R>>⟧.reads human lends j v.heart) (Absent ⟦<u32 as Deserialize<'de, R>>⟧.absent v.heart)
+        (Field (λ j. ⟦<u32 as Deserialize<'de, R>>⟧.reads human lends j v.lungs) (Absent ⟦<u32 as Deserialize<'de, R>>⟧.absent v.lungs)
+        (Field (λ j. ⟦<String as Deserialize<'de, R>>⟧.reads human lends j v.last) (Absent ⟦<String as Deserialize<'de, R>>⟧.absent v.last)
+        NoField)))))))))))))))) m };
+
+    ghost absent = { None };
+
+    ghost refuses = { RefusesFields (codes "number" ∷ (codes "name"
+        ∷ (codes "born" ∷ (codes "weight" ∷ (codes "height"
+        ∷ (codes "fever" ∷ (codes "offset" ∷ (codes "balance"
+        ∷ (codes "neutered" ∷ (codes "chip" ∷ (codes "owner"
+        ∷ (codes "shots" ∷ (codes "notes" ∷ (codes "heart" ∷ (codes "lungs" ∷ (codes "last" ∷ []))))))))))))))))
+        ⟦<(u64, String, u16, u8, (i8, i16, i32, i64, (bool, Option<u64>, Option<String>, Vec<u16>, (Vec<String>, u32, u32, String, ())))) as ReadFields<'de, R>>⟧.needed
+        ⟦<(u64, String, u16, u8, (i8, i16, i32, i64, (bool, Option<u64>, Option<String>, Vec<u16>, (Vec<String>, u32, u32, String, ())))) as ReadFields<'de, R>>⟧.parts };
+
+    fn deserialize<C: SerializerConfig>(
+        de: &mut Deserializer<R, C>,
+    ) -> Result<Chart, rmp_decode::Error> {
+        let read: Result<
+            (
+                u64,
+                String,
+                u16,
+                u8,
+                (
+                    i8,
+                    i16,
+                    i32,
+                    i64,
+                    (
+                        bool,
+                        Option<u64>,
+                        Option<String>,
+                        Vec<u16>,
+                        (Vec<String>, u32, u32, String, ()),
+                    ),
+                ),
+            ),
+            rmp_decode::Error,
+        > = de.deserialize_fields(&[
+            "number", "name", "born", "weight", "height", "fever", "offset", "balance", "neutered",
+            "chip", "owner", "shots", "notes", "heart", "lungs", "last",
+        ]);
+        match read {
+            Ok(parts) => {
+                let (
+                    number,
+                    name,
+                    born,
+                    weight,
+                    (
+                        height,
+                        fever,
+                        offset,
+                        balance,
+                        (neutered, chip, owner, shots, (notes, heart, lungs, last, ())),
+                    ),
+                ) = parts;
+                return Ok(Chart {
+                    number,
+                    name,
+                    born,
+                    weight,
+                    height,
+                    fever,
+                    offset,
+                    balance,
+                    neutered,
+                    chip,
+                    owner,
+                    shots,
+                    notes,
+                    heart,
+                    lungs,
+                    last,
+                });
+            }
+            Err(e) => return Err(e),
+        }
+    }
+
+    fn missing() -> Option<Chart> {
+        None
+    }
+}
+
+impl<'de, R: ReadSlice<'de>> RoundTrip<'de, R> for Chart {
+    ghost has_data = { λ human v. structure_all ((codes "number", ⟦<u64 as Serialize>⟧.data_of v.number human)
+        ∷ ((codes "name", ⟦<String as Serialize>⟧.data_of v.name human)
+        ∷ ((codes "born", ⟦<u16 as Serialize>⟧.data_of v.born human)
+        ∷ ((codes "weight", ⟦<u8 as Serialize>⟧.data_of v.weight human)
+        ∷ ((codes "height", ⟦<i8 as Serialize>⟧.data_of v.height human)
+        ∷ ((codes "fever", ⟦<i16 as Serialize>⟧.data_of v.fever human)
+        ∷ ((codes "offset", ⟦<i32 as Serialize>⟧.data_of v.offset human)
+        ∷ ((codes "balance", ⟦<i64 as Serialize>⟧.data_of v.balance human)
+        ∷ ((codes "neutered", ⟦<bool as Serialize>⟧.data_of v.neutered human)
+        ∷ ((codes "chip", ⟦<Option<u64> as Serialize>⟧.data_of v.chip human)
+        ∷ ((codes "owner", ⟦<Option<String> as Serialize>⟧.data_of v.owner human)
+        ∷ ((codes "shots", ⟦<Vec<u16> as Serialize>⟧.data_of v.shots human)
+        ∷ ((codes "notes", ⟦<Vec<String> as Serialize>⟧.data_of v.notes human)
+        ∷ ((codes "heart", ⟦<u32 as Serialize>⟧.data_of v.heart human)
+        ∷ ((codes "lungs", ⟦<u32 as Serialize>⟧.data_of v.lungs human) ∷ ((codes "last", ⟦<String as Serialize>⟧.data_of v.last human) ∷ [])))))))))))))))) (
+          refl,
+          (
+            refl,
+            (
+              refl,
+              (
+                refl,
+                (
+                  refl,
+                  (
+                    refl,
+                    (
+                      refl,
+                      (
+                        refl,
+                        (
+                          refl,
+                          (
+                            (option_some (λ x. ⟦<u64 as Serialize>⟧.data_of x human) (λ x1. refl) v.chip),
+                            (
+                              (option_some (λ x. ⟦<String as Serialize>⟧.data_of x human) (λ x2. refl) v.owner),
+                              (
+                                (slice_some _ (each_some (λ x. ⟦<u16 as Serialize>⟧.data_of x human) (λ x3. refl) v.shots.items)),
+                                ((slice_some _ (each_some (λ x. ⟦<String as Serialize>⟧.data_of x human) (λ x4. refl) v.notes.items)), (refl, (refl, (refl, tt)))),
+                              ),
+                            ),
+                          ),
+                        ),
+                      ),
+                    ),
+                  ),
+                ),
+              ),
+            ),
+          ),
+        ) };
+
+    ghost round = { λ lent s v fits. structure_row s (codes "number"
+        ∷ (codes "name" ∷ (codes "born" ∷ (codes "weight" ∷
+        (codes "height" ∷ (codes "fever" ∷ (codes "offset"
+        ∷ (codes "balance" ∷ (codes "neutered" ∷ (codes "chip"
+        ∷ (codes "owner" ∷ (codes "shots" ∷ (codes "notes" ∷ (codes "heart" ∷ (codes "lungs" ∷ (codes "last" ∷ [])))))))))))))))) _ _ refl
+        (fields_cons s (codes "number") _ _ _ (λ j. ⟦<u64 as Deserialize<'de, R>>⟧.reads s.human R.lends j v.number)
+        (Absent ⟦<u64 as Deserialize<'de, R>>⟧.absent v.number) _ (unsigned_row_64 s v.number fits.0)
+        (fields_cons s (codes "name") _ _ _ (λ j. ⟦<String as Deserialize<'de, R>>⟧.reads s.human R.lends j v.name)
+        (Absent ⟦<String as Deserialize<'de, R>>⟧.absent v.name) _ (string_row s (string_bytes v.name))
+        (fields_cons s (codes "born") _ _ _ (λ j. ⟦<u16 as Deserialize<'de, R>>⟧.reads s.human R.lends j v.born)
+        (Absent ⟦<u16 as Deserialize<'de, R>>⟧.absent v.born) _ (unsigned_row_16 s v.born fits.2)
+        (fields_cons s (codes "weight") _ _ _ (λ j. ⟦<u8 as Deserialize<'de, R>>⟧.reads s.human R.lends j v.weight)
+        (Absent ⟦<u8 as Deserialize<'de, R>>⟧.absent v.weight) _ (byte_row s v.weight fits.3)
+        (fields_cons s (codes "height") _ _ _ (λ j. ⟦<i8 as Deserialize<'de, R>>⟧.reads s.human R.lends j v.height)
+        (Absent ⟦<i8 as Deserialize<'de, R>>⟧.absent v.height) _ (signed_row_8 s v.height fits.4)
+        (fields_cons s (codes "fever") _ _ _ (λ j. ⟦<i16 as Deserialize<'de, R>>⟧.reads s.human R.lends j v.fever)
+        (Absent ⟦<i16 as Deserialize<'de, R>>⟧.absent v.fever) _ (signed_row_16 s v.fever fits.5)
+        (fields_cons s (codes "offset") _ _ _ (λ j. ⟦<i32 as Deserialize<'de, R>>⟧.reads s.human R.lends j v.offset)
+        (Absent ⟦<i32 as Deserialize<'de, R>>⟧.absent v.offset) _ (signed_row_32 s v.offset fits.6)
+        (fields_cons s (codes "balance") _ _ _ (λ j. ⟦<i64 as Deserialize<'de, R>>⟧.reads s.human R.lends j v.balance)
+        (Absent ⟦<i64 as Deserialize<'de, R>>⟧.absent v.balance) _ (signed_row_64 s v.balance fits.7)
+        (fields_cons s (codes "neutered") _ _ _ (λ j. ⟦<bool as Deserialize<'de, R>>⟧.reads s.human R.lends j v.neutered)
+        (Absent ⟦<bool as Deserialize<'de, R>>⟧.absent v.neutered) _ (truth_row s v.neutered)
+        (fields_cons s (codes "chip") _ _ _ (λ j. ⟦<Option<u64> as Deserialize<'de, R>>⟧.reads s.human R.lends j v.chip)
+        (Absent ⟦<Option<u64> as Deserialize<'de, R>>⟧.absent v.chip) _
+        (option_row s (λ x. ⟦<u64 as Serialize>⟧.data_of x s.human) ⟦<u64 as Serialize>⟧.is_value (⟦<u64 as Deserialize<'de, R>>⟧.reads s.human R.lends)
+        (λ x6. pos_other s x6) (λ x5 h5. (unsigned_row_64 s x5 h5)) v.chip fits.9)
+        (fields_cons s (codes "owner") _ _ _ (λ j. ⟦<Option<String> as Deserialize<'de, R>>⟧.reads s.human R.lends j v.owner)
+        (Absent ⟦<Option<String> as Deserialize<'de, R>>⟧.absent v.owner) _
+        (option_row s (λ x. ⟦<String as Serialize>⟧.data_of x s.human) ⟦<String as Serialize>⟧.is_value
+        (⟦<String as Deserialize<'de, R>>⟧.reads s.human R.lends) (λ x8. text_other s (string_bytes x8)) (λ x7 h7. (string_row s (string_bytes x7))) v.owner
+        fits.10) (fields_cons s (codes "shots") _ _ _ (λ j. ⟦<Vec<u16> as Deserialize<'de, R>>⟧.reads s.human R.lends j v.shots)
+        (Absent ⟦<Vec<u16> as Deserialize<'de, R>>⟧.absent v.shots) _
+        (slice_row s _ (λ ms. ReadsEach (⟦<u16 as Deserialize<'de, R>>⟧.reads s.human R.lends) ms v.shots.items)
+        (each_row s (λ x. ⟦<u16 as Serialize>⟧.data_of x s.human) ⟦<u16 as Serialize>⟧.is_value (⟦<u16 as Deserialize<'de, R>>⟧.reads s.human R.lends)
+        (λ x9 h9. (unsigned_row_16 s x9 h9)) v.shots.items fits.11))
+        (fields_cons s (codes "notes") _ _ _ (λ j. ⟦<Vec<String> as Deserialize<'de, R>>⟧.reads s.human R.lends j v.notes)
+        (Absent ⟦<Vec<String> as Deserialize<'de, R>>⟧.absent v.notes) _
+        (slice_row s _ (λ ms. ReadsEach (⟦<String as Deserialize<'de, R>>⟧.reads s.human R.lends) ms v.notes.items)
+        (each_row s (λ x. ⟦<String as Serialize>⟧.data_of x s.human) ⟦<String as Serialize>⟧.is_value
+        (⟦<String as Deserialize<'de, R>>⟧.reads s.human R.lends) (λ x10 h10. (string_row s (string_bytes x10))) v.notes.items fits.12))
+        (fields_cons s (codes "heart") _ _ _ (λ j. ⟦<u32 as Deserialize<'de, R>>⟧.reads s.human R.lends j v.heart)
+        (Absent ⟦<u32 as Deserialize<'de, R>>⟧.absent v.heart) _ (unsigned_row_32 s v.heart fits.13)
+        (fields_cons s (codes "lungs") _ _ _ (λ j. ⟦<u32 as Deserialize<'de, R>>⟧.reads s.human R.lends j v.lungs)
+        (Absent ⟦<u32 as Deserialize<'de, R>>⟧.absent v.lungs) _ (unsigned_row_32 s v.lungs fits.14)
+        (fields_cons s (codes "last") _ _ _ (λ j. ⟦<String as Deserialize<'de, R>>⟧.reads s.human R.lends j v.last)
+        (Absent ⟦<String as Deserialize<'de, R>>⟧.absent v.last) _ (string_row s (string_bytes v.last)) (fields_none s))))))))))))))))) };
+
+    ghost same = { λ v w. ⟦<u64 as RoundTrip<'de, R>>⟧.same v.number w.number × ⟦<String as RoundTrip<'de, R>>⟧.same v.name w.name
+        × ⟦<u16 as RoundTrip<'de, R>>⟧.same v.born w.born × ⟦<u8 as RoundTrip<'de, R>>⟧.same v.weight w.weight
+        × ⟦<i8 as RoundTrip<'de, R>>⟧.same v.height w.height × ⟦<i16 as RoundTrip<'de, R>>⟧.same v.fever w.fever
+        × ⟦<i32 as RoundTrip<'de, R>>⟧.same v.offset w.offset × ⟦<i64 as RoundTrip<'de, R>>⟧.same v.balance w.balance
+        × ⟦<bool as RoundTrip<'de, R>>⟧.same v.neutered w.neutered × ⟦<Option<u64> as RoundTrip<'de, R>>⟧.same v.chip w.chip
+        × ⟦<Option<String> as RoundTrip<'de, R>>⟧.same v.owner w.owner × ⟦<Vec<u16> as RoundTrip<'de, R>>⟧.same v.shots w.shots
+        × ⟦<Vec<String> as RoundTrip<'de, R>>⟧.same v.notes w.notes × ⟦<u32 as RoundTrip<'de, R>>⟧.same v.heart w.heart
+        × ⟦<u32 as RoundTrip<'de, R>>⟧.same v.lungs w.lungs × ⟦<String as RoundTrip<'de, R>>⟧.same v.last w.last };
+
+    ghost alike = { λ human v w h i. structure_of ((codes "number", (⟦<u64 as Serialize>⟧.data_of (h.0 i) human))
+        ∷ ((codes "name", (text_alike (string_bytes v.name) (string_bytes w.name) h.1 i))
+        ∷ ((codes "born", (⟦<u16 as Serialize>⟧.data_of (h.2 i) human))
+        ∷ ((codes "weight", (⟦<u8 as Serialize>⟧.data_of (h.3 i) human))
+        ∷ ((codes "height", (⟦<i8 as Serialize>⟧.data_of (h.4 i) human))
+        ∷ ((codes "fever", (⟦<i16 as Serialize>⟧.data_of (h.5 i) human))
+        ∷ ((codes "offset", (⟦<i32 as Serialize>⟧.data_of (h.6 i) human))
+        ∷ ((codes "balance", (⟦<i64 as Serialize>⟧.data_of (h.7 i) human))
+        ∷ ((codes "neutered", (⟦<bool as Serialize>⟧.data_of (h.8 i) human))
+        ∷ ((
+          codes "chip",
+          (option_alike ⟦<u64 as RoundTrip<'de, R>>⟧.same (λ x. ⟦<u64 as Serialize>⟧.data_of x human)
+              (λ x7 yx7 h7 i. (⟦<u64 as Serialize>⟧.data_of (h7 i) human)) v.chip w.chip h.9 i),
+        )
+        ∷ ((
+          codes "owner",
+          (option_alike ⟦<String as RoundTrip<'de, R>>⟧.same (λ x. ⟦<String as Serialize>⟧.data_of x human)
+              (λ x8 yx8 h8 i. (text_alike (string_bytes x8) (string_bytes yx8) h8 i)) v.owner w.owner h.10 i),
+        )
+        ∷ ((
+          codes "shots",
+          (slice_alike ⟦<u16 as RoundTrip<'de, R>>⟧.same (λ x. ⟦<u16 as Serialize>⟧.data_of x human)
+              (λ x9 yx9 h9 i. (⟦<u16 as Serialize>⟧.data_of (h9 i) human)) v.shots.items w.shots.items h.11 i),
+        )
+        ∷ ((
+          codes "notes",
+          (slice_alike ⟦<String as RoundTrip<'de, R>>⟧.same (λ x. ⟦<String as Serialize>⟧.data_of x human)
+              (λ x10 yx10 h10 i. (text_alike (string_bytes x10) (string_bytes yx10) h10 i)) v.notes.items w.notes.items h.12 i),
+        )
+        ∷ ((codes "heart", (⟦<u32 as Serialize>⟧.data_of (h.13 i) human))
+        ∷ ((codes "lungs", (⟦<u32 as Serialize>⟧.data_of (h.14 i) human))
+        ∷ ((codes "last", (text_alike (string_bytes v.last) (string_bytes w.last) h.15 i)) ∷ [])))))))))))))))) };
+
+    ghost only = { λ s v fits. lowers_then s _ _ (λ m. (w : _) → (⟦<Chart as Deserialize<'de, R>>⟧.reads s.human R.lends) m w
+        → ⟦<u64 as RoundTrip<'de, R>>⟧.same v.number w.number × ⟦<String as RoundTrip<'de, R>>⟧.same v.name w.name
+        × ⟦<u16 as RoundTrip<'de, R>>⟧.same v.born w.born × ⟦<u8 as RoundTrip<'de, R>>⟧.same v.weight w.weight
+        × ⟦<i8 as RoundTrip<'de, R>>⟧.same v.height w.height × ⟦<i16 as RoundTrip<'de, R>>⟧.same v.fever w.fever
+        × ⟦<i32 as RoundTrip<'de, R>>⟧.same v.offset w.offset × ⟦<i64 as RoundTrip<'de, R>>⟧.same v.balance w.balance
+        × ⟦<bool as RoundTrip<'de, R>>⟧.same v.neutered w.neutered × ⟦<Option<u64> as RoundTrip<'de, R>>⟧.same v.chip w.chip
+        × ⟦<Option<String> as RoundTrip<'de, R>>⟧.same v.owner w.owner × ⟦<Vec<u16> as RoundTrip<'de, R>>⟧.same v.shots w.shots
+        × ⟦<Vec<String> as RoundTrip<'de, R>>⟧.same v.notes w.notes × ⟦<u32 as RoundTrip<'de, R>>⟧.same v.heart w.heart
+        × ⟦<u32 as RoundTrip<'de, R>>⟧.same v.lungs w.lungs × ⟦<String as RoundTrip<'de, R>>⟧.same v.last w.last)
+        (structure_row s (codes "number" ∷ (codes "name" ∷
+        (codes "born" ∷ (codes "weight" ∷ (codes "height" ∷
+        (codes "fever" ∷ (codes "offset" ∷ (codes "balance"
+        ∷ (codes "neutered" ∷ (codes "chip" ∷ (codes "owner"
+        ∷ (codes "shots" ∷ (codes "notes" ∷ (codes "heart" ∷ (codes "lungs" ∷ (codes "last" ∷ [])))))))))))))))) _ _ refl
+        (fields_cons s (codes "number") _ _ _ (λ j. Only (⟦<u64 as Deserialize<'de, R>>⟧.reads s.human R.lends) ⟦<u64 as RoundTrip<'de, R>>⟧.same j
+        v.number) ⊥ _ (unsigned_only s 18446744073709551615 v.number)
+        (fields_cons s (codes "name") _ _ _ (λ j. Only (⟦<String as Deserialize<'de, R>>⟧.reads s.human R.lends) ⟦<String as RoundTrip<'de, R>>⟧.same j
+        v.name) ⊥ _ (string_only s (λ w. string_bytes w) (string_bytes v.name))
+        (fields_cons s (codes "born") _ _ _ (λ j. Only (⟦<u16 as Deserialize<'de, R>>⟧.reads s.human R.lends) ⟦<u16 as RoundTrip<'de, R>>⟧.same j v.born) ⊥
+        _ (unsigned_only s 65535 v.born) (fields_cons s (codes "weight") _ _ _
+        (λ j. Only (⟦<u8 as Deserialize<'de, R>>⟧.reads s.human R.lends) ⟦<u8 as RoundTrip<'de, R>>⟧.same j v.weight) ⊥ _ (byte_only s v.weight)
+        (fields_cons s (codes "height") _ _ _ (λ j. Only (⟦<i8 as Deserialize<'de, R>>⟧.reads s.human R.lends) ⟦<i8 as RoundTrip<'de, R>>⟧.same j v.height)
+        ⊥ _ (signed_only s (negsuc 127) (pos 127) v.height)
+        (fields_cons s (codes "fever") _ _ _ (λ j. Only (⟦<i16 as Deserialize<'de, R>>⟧.reads s.human R.lends) ⟦<i16 as RoundTrip<'de, R>>⟧.same j v.fever)
+        ⊥ _ (signed_only s (negsuc 32767) (pos 32767) v.fever)
+        (fields_cons s (codes "offset") _ _ _ (λ j. Only (⟦<i32 as Deserialize<'de, R>>⟧.reads s.human R.lends) ⟦<i32 as RoundTrip<'de, R>>⟧.same j
+        v.offset) ⊥ _ (signed_only s (negsuc 2147483647) (pos 2147483647) v.offset)
+        (fields_cons s (codes "balance") _ _ _ (λ j. Only (⟦<i64 as Deserialize<'de, R>>⟧.reads s.human R.lends) ⟦<i64 as RoundTrip<'de, R>>⟧.same j
+        v.balance) ⊥ _ (signed_only s (negsuc 9223372036854775807) (pos 9223372036854775807) v.balance)
+        (fields_cons s (codes "neutered") _ _ _ (λ j. Only (⟦<bool as Deserialize<'de, R>>⟧.reads s.human R.lends) ⟦<bool as RoundTrip<'de, R>>⟧.same j
+        v.neutered) ⊥ _ (truth_only s v.neutered) (fields_cons s (codes "chip") _ _ _
+        (λ j. Only (⟦<Option<u64> as Deserialize<'de, R>>⟧.reads s.human R.lends) ⟦<Option<u64> as RoundTrip<'de, R>>⟧.same j v.chip) ⊥ _
+        (option_only s _ (⟦<u64 as Deserialize<'de, R>>⟧.reads s.human R.lends) ⟦<u64 as RoundTrip<'de, R>>⟧.same v.chip
+        (option_row s (λ x. ⟦<u64 as Serialize>⟧.data_of x s.human) ⟦<u64 as Serialize>⟧.is_value
+        (Only (⟦<u64 as Deserialize<'de, R>>⟧.reads s.human R.lends) ⟦<u64 as RoundTrip<'de, R>>⟧.same) (λ x2. pos_other s x2)
+        (λ x1 h1. (unsigned_only s 18446744073709551615 x1)) v.chip fits.9))
+        (fields_cons s (codes "owner") _ _ _ (λ j. Only (⟦<Option<String> as Deserialize<'de, R>>⟧.reads s.human R.lends)
+        ⟦<Option<String> as RoundTrip<'de, R>>⟧.same j v.owner) ⊥ _
+        (option_only s _ (⟦<String as Deserialize<'de, R>>⟧.reads s.human R.lends) ⟦<String as RoundTrip<'de, R>>⟧.same v.owner
+        (option_row s (λ x. ⟦<String as Serialize>⟧.data_of x s.human) ⟦<String as Serialize>⟧.is_value
+        (Only (⟦<String as Deserialize<'de, R>>⟧.reads s.human R.lends) ⟦<String as RoundTrip<'de, R>>⟧.same) (λ x4. text_other s (string_bytes x4))
+        (λ x3 h3. (string_only s (λ w. string_bytes w) (string_bytes x3))) v.owner fits.10))
+        (fields_cons s (codes "shots") _ _ _ (λ j. Only (⟦<Vec<u16> as Deserialize<'de, R>>⟧.reads s.human R.lends) ⟦<Vec<u16> as RoundTrip<'de, R>>⟧.same j
+        v.shots) ⊥ _ (list_only s _ (λ w. w.items) (⟦<u16 as Deserialize<'de, R>>⟧.reads s.human R.lends) ⟦<u16 as RoundTrip<'de, R>>⟧.same v.shots.items
+        (slice_row s _ (λ ms. ReadsEach (Only (⟦<u16 as Deserialize<'de, R>>⟧.reads s.human R.lends) ⟦<u16 as RoundTrip<'de, R>>⟧.same) ms v.shots.items)
+        (each_row s (λ x. ⟦<u16 as Serialize>⟧.data_of x s.human) ⟦<u16 as Serialize>⟧.is_value
+        (Only (⟦<u16 as Deserialize<'de, R>>⟧.reads s.human R.lends) ⟦<u16 as RoundTrip<'de, R>>⟧.same) (λ x5 h5. (unsigned_only s 65535 x5)) v.shots.items
+        fits.11))) (fields_cons s (codes "notes") _ _ _ (λ j. Only (⟦<Vec<String> as Deserialize<'de, R>>⟧.reads s.human R.lends)
+        ⟦<Vec<String> as RoundTrip<'de, R>>⟧.same j v.notes) ⊥ _
+        (list_only s _ (λ w. w.items) (⟦<String as Deserialize<'de, R>>⟧.reads s.human R.lends) ⟦<String as RoundTrip<'de, R>>⟧.same v.notes.items
+        (slice_row s _ (λ ms. ReadsEach (Only (⟦<String as Deserialize<'de, R>>⟧.reads s.human R.lends) ⟦<String as RoundTrip<'de, R>>⟧.same) ms
+        v.notes.items) (each_row s (λ x. ⟦<String as Serialize>⟧.data_of x s.human) ⟦<String as Serialize>⟧.is_value
+        (Only (⟦<String as Deserialize<'de, R>>⟧.reads s.human R.lends) ⟦<String as RoundTrip<'de, R>>⟧.same)
+        (λ x6 h6. (string_only s (λ w. string_bytes w) (string_bytes x6))) v.notes.items fits.12)))
+        (fields_cons s (codes "heart") _ _ _ (λ j. Only (⟦<u32 as Deserialize<'de, R>>⟧.reads s.human R.lends) ⟦<u32 as RoundTrip<'de, R>>⟧.same j v.heart)
+        ⊥ _ (unsigned_only s 4294967295 v.heart) (fields_cons s (codes "lungs") _ _ _
+        (λ j. Only (⟦<u32 as Deserialize<'de, R>>⟧.reads s.human R.lends) ⟦<u32 as RoundTrip<'de, R>>⟧.same j v.lungs) ⊥ _
+        (unsigned_only s 4294967295 v.lungs) (fields_cons s (codes "last") _ _ _
+        (λ j. Only (⟦<String as Deserialize<'de, R>>⟧.reads s.human R.lends) ⟦<String as RoundTrip<'de, R>>⟧.same j v.last) ⊥ _
+        (string_only s (λ w. string_bytes w) (string_bytes v.last)) (fields_none s))))))))))))))))))
+        (λ m q w r. fields_both (codes "number" ∷ (codes "name"
+        ∷ (codes "born" ∷ (codes "weight" ∷ (codes "height"
+        ∷ (codes "fever" ∷ (codes "offset" ∷ (codes "balance"
+        ∷ (codes "neutered" ∷ (codes "chip" ∷ (codes "owner"
+        ∷ (codes "shots" ∷ (codes "notes" ∷ (codes "heart" ∷ (codes "lungs" ∷ (codes "last" ∷ [])))))))))))))))) _ _ _ m q r
+        (λ ks i j. let x = field_only (⟦<u64 as Deserialize<'de, R>>⟧.reads s.human R.lends) ⟦<u64 as RoundTrip<'de, R>>⟧.same v.number w.number _ _ _ _
+        (field_only (⟦<String as Deserialize<'de, R>>⟧.reads s.human R.lends) ⟦<String as RoundTrip<'de, R>>⟧.same v.name w.name _ _ _ _
+        (field_only (⟦<u16 as Deserialize<'de, R>>⟧.reads s.human R.lends) ⟦<u16 as RoundTrip<'de, R>>⟧.same v.born w.born _ _ _ _
+        (field_only (⟦<u8 as Deserialize<'de, R>>⟧.reads s.human R.lends) ⟦<u8 as RoundTrip<'de, R>>⟧.same v.weight w.weight _ _ _ _
+        (field_only (⟦<i8 as Deserialize<'de, R>>⟧.reads s.human R.lends) ⟦<i8 as RoundTrip<'de, R>>⟧.same v.height w.height _ _ _ _
+        (field_only (⟦<i16 as Deserialize<'de, R>>⟧.reads s.human R.lends) ⟦<i16 as RoundTrip<'de, R>>⟧.same v.fever w.fever _ _ _ _
+        (field_only (⟦<i32 as Deserialize<'de, R>>⟧.reads s.human R.lends) ⟦<i32 as RoundTrip<'de, R>>⟧.same v.offset w.offset _ _ _ _
+        (field_only (⟦<i64 as Deserialize<'de, R>>⟧.reads s.human R.lends) ⟦<i64 as RoundTrip<'de, R>>⟧.same v.balance w.balance _ _ _ _
+        (field_only (⟦<bool as Deserialize<'de, R>>⟧.reads s.human R.lends) ⟦<bool as RoundTrip<'de, R>>⟧.same v.neutered w.neutered _ _ _ _
+        (field_only (⟦<Option<u64> as Deserialize<'de, R>>⟧.reads s.human R.lends) ⟦<Option<u64> as RoundTrip<'de, R>>⟧.same v.chip w.chip _ _ _ _
+        (field_only (⟦<Option<String> as Deserialize<'de, R>>⟧.reads s.human R.lends) ⟦<Option<String> as RoundTrip<'de, R>>⟧.same v.owner w.owner _ _ _ _
+        (field_only (⟦<Vec<u16> as Deserialize<'de, R>>⟧.reads s.human R.lends) ⟦<Vec<u16> as RoundTrip<'de, R>>⟧.same v.shots w.shots _ _ _ _
+        (field_only (⟦<Vec<String> as Deserialize<'de, R>>⟧.reads s.human R.lends) ⟦<Vec<String> as RoundTrip<'de, R>>⟧.same v.notes w.notes _ _ _ _
+        (field_only (⟦<u32 as Deserialize<'de, R>>⟧.reads s.human R.lends) ⟦<u32 as RoundTrip<'de, R>>⟧.same v.heart w.heart _ _ _ _
+        (field_only (⟦<u32 as Deserialize<'de, R>>⟧.reads s.human R.lends) ⟦<u32 as RoundTrip<'de, R>>⟧.same v.lungs w.lungs _ _ _ _
+        (last_field (⟦<String as Deserialize<'de, R>>⟧.reads s.human R.lends) ⟦<String as RoundTrip<'de, R>>⟧.same v.last w.last _))))))))))))))) ks i j
+        in (
+          x.0,
+          x.1.0,
+          x.1.1.0,
+          x.1.1.1.0,
+          x.1.1.1.1.0,
+          x.1.1.1.1.1.0,
+          x.1.1.1.1.1.1.0,
+          x.1.1.1.1.1.1.1.0,
+          x.1.1.1.1.1.1.1.1.0,
+          x.1.1.1.1.1.1.1.1.1.0,
+          x.1.1.1.1.1.1.1.1.1.1.0,
+          x.1.1.1.1.1.1.1.1.1.1.1.0,
+          x.1.1.1.1.1.1.1.1.1.1.1.1.0,
+          x.1.1.1.1.1.1.1.1.1.1.1.1.1.0,
+          x.1.1.1.1.1.1.1.1.1.1.1.1.1.1.0,
+          x.1.1.1.1.1.1.1.1.1.1.1.1.1.1.1,
+        ))) };
+}
+
+impl NeverNil for Chart {
+    ghost never_nil = { λ s v. structure_other s _ };
+}
+
+impl<'de, R: ReadSlice<'de>> EndsInside<'de, R> for Chart {
+    ghost ends_inside = { fields_inside _ _ _ (
+      number_inside,
+      (
+        string_inside,
+        (
+          number_inside,
+          (
+            number_inside,
+            (
+              number_inside,
+              (
+                number_inside,
+                (
+                  number_inside,
+                  (
+                    number_inside,
+                    (
+                      kind_inside,
+                      (
+                        (option_inside ⟦<u64 as Deserialize<'de, R>>⟧.refuses number_inside),
+                        (
+                          (option_inside ⟦<String as Deserialize<'de, R>>⟧.refuses string_inside),
+                          (
+                            (each_inside ⟦<u16 as Deserialize<'de, R>>⟧.reads ⟦<u16 as Deserialize<'de, R>>⟧.refuses number_inside),
+                            (
+                              (each_inside ⟦<String as Deserialize<'de, R>>⟧.reads ⟦<String as Deserialize<'de, R>>⟧.refuses string_inside),
+                              (number_inside, (number_inside, (string_inside, tt))),
+                            ),
+                          ),
+                        ),
+                      ),
+                    ),
+                  ),
+                ),
+              ),
+            ),
+          ),
+        ),
+      ),
+    ) };
+}
 
 impl Serialize for Survey {
     ghost data_of = { λ v human. structure_of ((codes "ship", ⟦<String as Serialize>⟧.data_of v.ship human)
@@ -729,6 +1212,110 @@ impl<'de, R: ReadSlice<'de>> RoundTrip<'de, R> for Survey {
         × ⟦<(u8, String) as RoundTrip<'de, R>>⟧.same v.port w.port × ⟦<Vec<ByteBuf> as RoundTrip<'de, R>>⟧.same v.log w.log
         × ⟦<Option<char> as RoundTrip<'de, R>>⟧.same v.crane w.crane × ⟦<String as RoundTrip<'de, R>>⟧.same v.surveyor w.surveyor };
 
+    ghost alike = { λ human v w h i. structure_of ((codes "ship", (text_alike (string_bytes v.ship) (string_bytes w.ship) h.0 i))
+        ∷ ((codes "course", (course_rounds.alike-law R.row R.ReadSlice.own (given 0) R.Source (given 0) human v.course w.course h.1 i))
+        ∷ ((
+          codes "crew",
+          (slice_alike ⟦<(u8, String) as RoundTrip<'de, R>>⟧.same (λ x. ⟦<(u8, String) as Serialize>⟧.data_of x human)
+              (λ x25 yx25 h25 i. (tuple_of ((⟦<u8 as Serialize>⟧.data_of (h25.0 i) human)
+              ∷ ((text_alike (string_bytes x25.1) (string_bytes yx25.1) h25.1 i) ∷ [])))) v.crew.items w.crew.items h.2 i),
+        )
+        ∷ ((codes "seal", (⟦<u128 as Serialize>⟧.data_of (h.3 i) human))
+        ∷ ((codes "nothing", (unit_alike i)) ∷ ((codes "flag", (⟦<char as Serialize>⟧.data_of (h.5 i) human))
+        ∷ ((codes "spot", (spot_rounds.alike-law R.row R.ReadSlice.own (given 0) R.Source (given 0) human v.spot w.spot h.6 i))
+        ∷ ((
+          codes "cargo",
+          (mapping_alike ⟦<String as RoundTrip<'de, R>>⟧.same (λ x. ⟦<String as Serialize>⟧.data_of x human)
+              (λ x26 yx26 h26 i. (text_alike (string_bytes x26) (string_bytes yx26) h26 i)) ⟦<u64 as RoundTrip<'de, R>>⟧.same
+              (λ x. ⟦<u64 as Serialize>⟧.data_of x human) (λ x27 yx27 h27 i. (⟦<u64 as Serialize>⟧.data_of (h27 i) human)) v.cargo.entries w.cargo.entries h.7 i),
+        )
+        ∷ ((
+          codes "depths",
+          (array_alike ⟦<u16 as RoundTrip<'de, R>>⟧.same (λ x. ⟦<u16 as Serialize>⟧.data_of x human)
+              (λ x28 yx28 h28 i. (⟦<u16 as Serialize>⟧.data_of (h28 i) human)) v.depths w.depths h.8 i),
+        )
+        ∷ ((
+          codes "last",
+          (option_alike ⟦<Spot as RoundTrip<'de, R>>⟧.same (λ x. ⟦<Spot as Serialize>⟧.data_of x human)
+              (λ x29 yx29 h29 i. (spot_rounds.alike-law R.row R.ReadSlice.own (given 0) R.Source (given 0) human x29 yx29 h29 i)) v.last w.last h.9 i),
+        )
+        ∷ ((codes "chart", (bytes_alike (buffer_bytes v.chart) (buffer_bytes w.chart) h.10 i))
+        ∷ ((
+          codes "pair",
+          (tuple_of ((⟦<i64 as Serialize>⟧.data_of (h.11.0 i) human)
+              ∷ ((option_alike ⟦<bool as RoundTrip<'de, R>>⟧.same (λ x. ⟦<bool as Serialize>⟧.data_of x human)
+              (λ x30 yx30 h30 i. (⟦<bool as Serialize>⟧.data_of (h30 i) human)) v.pair.1 w.pair.1 h.11.1 i) ∷ []))),
+        )
+        ∷ ((
+          codes "owner",
+          (option_alike ⟦<String as RoundTrip<'de, R>>⟧.same (λ x. ⟦<String as Serialize>⟧.data_of x human)
+              (λ x31 yx31 h31 i. (text_alike (string_bytes x31) (string_bytes yx31) h31 i)) v.owner w.owner h.12 i),
+        )
+        ∷ ((codes "tonnage", (⟦<u32 as Serialize>⟧.data_of (h.13 i) human))
+        ∷ ((codes "draught", (float64_alike v.draught.0 w.draught.0 h.14 i))
+        ∷ ((
+          codes "ports",
+          (slice_alike ⟦<String as RoundTrip<'de, R>>⟧.same (λ x. ⟦<String as Serialize>⟧.data_of x human)
+              (λ x32 yx32 h32 i. (text_alike (string_bytes x32) (string_bytes yx32) h32 i)) v.ports.items w.ports.items h.15 i),
+        )
+        ∷ ((codes "heading", (⟦<i16 as Serialize>⟧.data_of (h.16 i) human))
+        ∷ ((codes "debt", (⟦<i128 as Serialize>⟧.data_of (h.17 i) human))
+        ∷ ((
+          codes "berths",
+          (sequence_alike ⟦<u16 as RoundTrip<'de, R>>⟧.same (λ x. ⟦<u16 as Serialize>⟧.data_of x human)
+              (λ x33 yx33 h33 i. (⟦<u16 as Serialize>⟧.data_of (h33 i) human)) v.berths.keys w.berths.keys h.18 i),
+        )
+        ∷ ((codes "done", (⟦<bool as Serialize>⟧.data_of (h.19 i) human))
+        ∷ ((
+          codes "next",
+          (option_alike ⟦<Course as RoundTrip<'de, R>>⟧.same (λ x. ⟦<Course as Serialize>⟧.data_of x human)
+              (λ x34 yx34 h34 i. (course_rounds.alike-law R.row R.ReadSlice.own (given 0) R.Source (given 0) human x34 yx34 h34 i)) v.next w.next h.20 i),
+        )
+        ∷ ((
+          codes "marks",
+          (slice_alike ⟦<Spot as RoundTrip<'de, R>>⟧.same (λ x. ⟦<Spot as Serialize>⟧.data_of x human)
+              (λ x35 yx35 h35 i. (spot_rounds.alike-law R.row R.ReadSlice.own (given 0) R.Source (given 0) human x35 yx35 h35 i)) v.marks.items w.marks.items h.21
+              i),
+        ) ∷ ((codes "length", (⟦<u64 as Serialize>⟧.data_of (h.22 i) human))
+        ∷ ((codes "beam", (⟦<u8 as Serialize>⟧.data_of (h.23 i) human))
+        ∷ ((
+          codes "stores",
+          (mapping_alike ⟦<u16 as RoundTrip<'de, R>>⟧.same (λ x. ⟦<u16 as Serialize>⟧.data_of x human)
+              (λ x36 yx36 h36 i. (⟦<u16 as Serialize>⟧.data_of (h36 i) human)) ⟦<String as RoundTrip<'de, R>>⟧.same (λ x. ⟦<String as Serialize>⟧.data_of x human)
+              (λ x37 yx37 h37 i. (text_alike (string_bytes x37) (string_bytes yx37) h37 i)) v.stores.entries w.stores.entries h.24 i),
+        )
+        ∷ ((
+          codes "sounding",
+          (option_alike ⟦<i64 as RoundTrip<'de, R>>⟧.same (λ x. ⟦<i64 as Serialize>⟧.data_of x human)
+              (λ x38 yx38 h38 i. (⟦<i64 as Serialize>⟧.data_of (h38 i) human)) v.sounding w.sounding h.25 i),
+        )
+        ∷ ((
+          codes "hatches",
+          (array_alike ⟦<bool as RoundTrip<'de, R>>⟧.same (λ x. ⟦<bool as Serialize>⟧.data_of x human)
+              (λ x39 yx39 h39 i. (⟦<bool as Serialize>⟧.data_of (h39 i) human)) v.hatches w.hatches h.26 i),
+        )
+        ∷ ((
+          codes "legs",
+          (slice_alike ⟦<Course as RoundTrip<'de, R>>⟧.same (λ x. ⟦<Course as Serialize>⟧.data_of x human)
+              (λ x40 yx40 h40 i. (course_rounds.alike-law R.row R.ReadSlice.own (given 0) R.Source (given 0) human x40 yx40 h40 i)) v.legs.items w.legs.items h.27
+              i),
+        ) ∷ ((
+          codes "port",
+          (tuple_of ((⟦<u8 as Serialize>⟧.data_of (h.28.0 i) human)
+              ∷ ((text_alike (string_bytes v.port.1) (string_bytes w.port.1) h.28.1 i) ∷ []))),
+        )
+        ∷ ((
+          codes "log",
+          (slice_alike ⟦<ByteBuf as RoundTrip<'de, R>>⟧.same (λ x. ⟦<ByteBuf as Serialize>⟧.data_of x human)
+              (λ x41 yx41 h41 i. (bytes_alike (buffer_bytes x41) (buffer_bytes yx41) h41 i)) v.log.items w.log.items h.29 i),
+        )
+        ∷ ((
+          codes "crane",
+          (option_alike ⟦<char as RoundTrip<'de, R>>⟧.same (λ x. ⟦<char as Serialize>⟧.data_of x human)
+              (λ x42 yx42 h42 i. (⟦<char as Serialize>⟧.data_of (h42 i) human)) v.crane w.crane h.30 i),
+        )
+        ∷ ((codes "surveyor", (text_alike (string_bytes v.surveyor) (string_bytes w.surveyor) h.31 i)) ∷ [])))))))))))))))))))))))))))))))) };
+
     ghost only = { λ s v fits. lowers_then s _ _ (λ m. (w : _) → (⟦<Survey as Deserialize<'de, R>>⟧.reads s.human R.lends) m w
         → ⟦<String as RoundTrip<'de, R>>⟧.same v.ship w.ship × ⟦<Course as RoundTrip<'de, R>>⟧.same v.course w.course
         × ⟦<Vec<(u8, String)> as RoundTrip<'de, R>>⟧.same v.crew w.crew × ⟦<u128 as RoundTrip<'de, R>>⟧.same v.seal w.seal
@@ -782,10 +1369,12 @@ impl<'de, R: ReadSlice<'de>> RoundTrip<'de, R> for Survey {
         (spot_rounds.only-law R.row R.ReadSlice.own (given 0) R.Source (given 0) s v.spot fits.6)
         (fields_cons s (codes "cargo") _ _ _ (λ j. Only (⟦<BTreeMap<String, u64> as Deserialize<'de, R>>⟧.reads s.human R.lends)
         ⟦<BTreeMap<String, u64> as RoundTrip<'de, R>>⟧.same j v.cargo) ⊥ _
-        (map_only (⟦<String as Deserialize<'de, R>>⟧.reads s.human R.lends) (⟦<u64 as Deserialize<'de, R>>⟧.reads s.human R.lends)
-        ⟦<String as RoundTrip<'de, R>>⟧.same ⟦<u64 as RoundTrip<'de, R>>⟧.same s _ (λ w. w.entries) ⟦<String as Ord>⟧.cmp v.cargo.entries
-        (pairs_row s (λ x. ⟦<String as Serialize>⟧.data_of x s.human) (λ x. ⟦<u64 as Serialize>⟧.data_of x s.human) ⟦<String as Serialize>⟧.is_value
-        ⟦<u64 as Serialize>⟧.is_value (Only (⟦<String as Deserialize<'de, R>>⟧.reads s.human R.lends) ⟦<String as RoundTrip<'de, R>>⟧.same)
+        (entries_only (⟦<String as Deserialize<'de, R>>⟧.reads s.human R.lends) (⟦<u64 as Deserialize<'de, R>>⟧.reads s.human R.lends)
+        ⟦<String as RoundTrip<'de, R>>⟧.same ⟦<u64 as RoundTrip<'de, R>>⟧.same s _ (λ w. w.entries) {cmp = ⟦<String as Ord>⟧.cmp}
+        (on_total (λ x. string_bytes x) nat_list_cmp_total) (λ x y e. tied (slice_cmp nat_cmp) nat_list_cmp_total (string_bytes x) (string_bytes y) e)
+        v.cargo.entries fits.7.1 (pairs_row s (λ x. ⟦<String as Serialize>⟧.data_of x s.human) (λ x. ⟦<u64 as Serialize>⟧.data_of x s.human)
+        ⟦<String as Serialize>⟧.is_value ⟦<u64 as Serialize>⟧.is_value
+        (Only (⟦<String as Deserialize<'de, R>>⟧.reads s.human R.lends) ⟦<String as RoundTrip<'de, R>>⟧.same)
         (Only (⟦<u64 as Deserialize<'de, R>>⟧.reads s.human R.lends) ⟦<u64 as RoundTrip<'de, R>>⟧.same)
         (λ x2 h2. (string_only s (λ w. string_bytes w) (string_bytes x2))) (λ x3 h3. (unsigned_only s 18446744073709551615 x3)) v.cargo.entries fits.7.0))
         (fields_cons s (codes "depths") _ _ _ (λ j. Only (⟦<[u16; 3] as Deserialize<'de, R>>⟧.reads s.human R.lends) ⟦<[u16; 3] as RoundTrip<'de, R>>⟧.same
@@ -836,9 +1425,10 @@ impl<'de, R: ReadSlice<'de>> RoundTrip<'de, R> for Survey {
         (fields_cons s (codes "debt") _ _ _ (λ j. Only (⟦<i128 as Deserialize<'de, R>>⟧.reads s.human R.lends) ⟦<i128 as RoundTrip<'de, R>>⟧.same j v.debt)
         ⊥ _ (signed128_only s v.debt fits.17) (fields_cons s (codes "berths") _ _ _
         (λ j. Only (⟦<BTreeSet<u16> as Deserialize<'de, R>>⟧.reads s.human R.lends) ⟦<BTreeSet<u16> as RoundTrip<'de, R>>⟧.same j v.berths) ⊥ _
-        (set_only s _ (λ w. w.keys) ⟦<u16 as Ord>⟧.cmp (⟦<u16 as Deserialize<'de, R>>⟧.reads s.human R.lends) ⟦<u16 as RoundTrip<'de, R>>⟧.same
-        v.berths.keys (sequence_row s _ (λ ms. ReadsEach (Only (⟦<u16 as Deserialize<'de, R>>⟧.reads s.human R.lends) ⟦<u16 as RoundTrip<'de, R>>⟧.same) ms
-        v.berths.keys) (each_row s (λ x. ⟦<u16 as Serialize>⟧.data_of x s.human) ⟦<u16 as Serialize>⟧.is_value
+        (set_only s _ (λ w. w.keys) {cmp = ⟦<u16 as Ord>⟧.cmp} (Prim.search (comparing, rules)) (⟦<u16 as Deserialize<'de, R>>⟧.reads s.human R.lends)
+        ⟦<u16 as RoundTrip<'de, R>>⟧.same (λ x y e. tied ⟦<u16 as Ord>⟧.cmp (Prim.search (comparing, rules)) x y e) v.berths.keys fits.18.1
+        (sequence_row s _ (λ ms. ReadsEach (Only (⟦<u16 as Deserialize<'de, R>>⟧.reads s.human R.lends) ⟦<u16 as RoundTrip<'de, R>>⟧.same) ms v.berths.keys)
+        (each_row s (λ x. ⟦<u16 as Serialize>⟧.data_of x s.human) ⟦<u16 as Serialize>⟧.is_value
         (Only (⟦<u16 as Deserialize<'de, R>>⟧.reads s.human R.lends) ⟦<u16 as RoundTrip<'de, R>>⟧.same) (λ x12 h12. (unsigned_only s 65535 x12))
         v.berths.keys fits.18.0))) (fields_cons s (codes "done") _ _ _
         (λ j. Only (⟦<bool as Deserialize<'de, R>>⟧.reads s.human R.lends) ⟦<bool as RoundTrip<'de, R>>⟧.same j v.done) ⊥ _ (truth_only s v.done)
@@ -859,8 +1449,9 @@ impl<'de, R: ReadSlice<'de>> RoundTrip<'de, R> for Survey {
         (fields_cons s (codes "beam") _ _ _ (λ j. Only (⟦<u8 as Deserialize<'de, R>>⟧.reads s.human R.lends) ⟦<u8 as RoundTrip<'de, R>>⟧.same j v.beam) ⊥ _
         (byte_only s v.beam) (fields_cons s (codes "stores") _ _ _
         (λ j. Only (⟦<BTreeMap<u16, String> as Deserialize<'de, R>>⟧.reads s.human R.lends) ⟦<BTreeMap<u16, String> as RoundTrip<'de, R>>⟧.same j v.stores)
-        ⊥ _ (map_only (⟦<u16 as Deserialize<'de, R>>⟧.reads s.human R.lends) (⟦<String as Deserialize<'de, R>>⟧.reads s.human R.lends)
-        ⟦<u16 as RoundTrip<'de, R>>⟧.same ⟦<String as RoundTrip<'de, R>>⟧.same s _ (λ w. w.entries) ⟦<u16 as Ord>⟧.cmp v.stores.entries
+        ⊥ _ (entries_only (⟦<u16 as Deserialize<'de, R>>⟧.reads s.human R.lends) (⟦<String as Deserialize<'de, R>>⟧.reads s.human R.lends)
+        ⟦<u16 as RoundTrip<'de, R>>⟧.same ⟦<String as RoundTrip<'de, R>>⟧.same s _ (λ w. w.entries) {cmp = ⟦<u16 as Ord>⟧.cmp}
+        (Prim.search (comparing, rules)) (λ x y e. tied ⟦<u16 as Ord>⟧.cmp (Prim.search (comparing, rules)) x y e) v.stores.entries fits.24.1
         (pairs_row s (λ x. ⟦<u16 as Serialize>⟧.data_of x s.human) (λ x. ⟦<String as Serialize>⟧.data_of x s.human) ⟦<u16 as Serialize>⟧.is_value
         ⟦<String as Serialize>⟧.is_value (Only (⟦<u16 as Deserialize<'de, R>>⟧.reads s.human R.lends) ⟦<u16 as RoundTrip<'de, R>>⟧.same)
         (Only (⟦<String as Deserialize<'de, R>>⟧.reads s.human R.lends) ⟦<String as RoundTrip<'de, R>>⟧.same) (λ x16 h16. (unsigned_only s 65535 x16))

@@ -5,7 +5,8 @@ use rmp_wire::ReadRefReader;
 use std::process::Abort;
 use std::test::Fail;
 use test_derived::{Mixed, Server};
-use test_recursive::{Post, Rule};
+use test_nodes::List;
+use test_recursive::Task;
 use test_types::Pup;
 use test_types::structs::Dog;
 use test_wide::Manifest;
@@ -116,24 +117,18 @@ fn of_derived_types(rt: HostRuntime) {
     }
     // one field after another, by hand
     lacks(&rt, from_slice::<Pup>(rt.alloc(), b"\x81\x01\x08"), "name");
-    // recursive types: the first field of a post may be missing
-    lacks(&rt, from_slice::<Post>(rt.alloc(), b"\x80"), "data");
-    lacks(
-        &rt,
-        from_slice::<Post>(rt.alloc(), b"\x81\xa4data\x90"),
-        "mood",
-    );
-    lacks(
-        &rt,
-        from_slice::<Post>(rt.alloc(), b"\x81\xa4span\x81\xa5close\x01"),
-        "open",
-    );
-    // by the name in the message
-    lacks(
-        &rt,
-        from_slice::<Rule>(rt.alloc(), b"\x81\xa4Cond\x81\xa9otherwise\xc0"),
-        "firstTest",
-    );
+    // recursive types: the first three fields of a list may be missing
+    lacks(&rt, from_slice::<List>(rt.alloc(), b"\x80"), "places");
+    for (input, name) in [
+        (b"\x81\xa3Run\x80".as_slice(), "order"),
+        (b"\x81\xa3Run\x81\xa5order\xa8Together", "span"),
+        (b"\x81\xa3Run\x81\xa4span\x81\xa4last\x01", "first"),
+        // by the name in the message
+        (b"\x81\xa4Wait\x80", "atLeast"),
+        (b"\x81\xa4Wait\x81\xa7atLeast\x01", "thenCall"),
+    ] {
+        lacks(&rt, from_slice::<Task>(rt.alloc(), input), name);
+    }
 }
 
 #[test]

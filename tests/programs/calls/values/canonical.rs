@@ -1,6 +1,9 @@
 //! What is read from the very bytes that are written of it, and what isn't.
 use rmp_serde::decode::Error;
-use rmp_serde::{from_slice_canonical, from_slice_canonical_named, from_slice_strict};
+use rmp_serde::{
+    Explained, Structs, from_slice_canonical, from_slice_canonical_explained,
+    from_slice_canonical_named, from_slice_strict,
+};
 use std::collections::{BTreeMap, BTreeSet};
 use std::test::Fail;
 use test_derived::Dog;
@@ -60,4 +63,73 @@ fn fields_in_another_order_are_refused(rt: HostRuntime) {
     assert!(rt; strict.is_ok());
     let named: Result<Dog, Error> = from_slice_canonical_named(rt.alloc(), turned);
     assert!(rt; matches!(named, Err(Error::NotCanonical)));
+}
+
+// Whether a refusal comes with this line.
+fn is_explained<T: Drop>(rt: HostRuntime, read: Result<T, Explained>, line: &str) -> bool {
+    match read {
+        Ok(_) => false,
+        Err(refused) => match format!(in rt.alloc(); "{refused}") {
+            Ok(said) => said.as_str() == line,
+            Err(_) => false,
+        },
+    }
+}
+
+#[test]
+fn what_is_written_otherwise_is_explained(rt: HostRuntime) -> Result<(), Fail> {
+    let alloc = rt.alloc();
+    // {"b": 1, "a": 2}, whose keys aren't in order
+    let bytes = b"\x82\xa1b\x01\xa1a\x02";
+    let read: Result<BTreeMap<String, u8>, Explained> = from_slice_canonical_explained(
+        alloc,
+        bytes,
+        Structs::Lists,
+    );
+    assert!(rt;
+        is_explained(
+            rt,
+            read,
+            "not canonical at {key 0} (byte 1): a text of 1 byte"
+        )
+    );
+    // What follows the message is otherwise.
+    let read: Result<(u8, bool), Explained> = from_slice_canonical_explained(
+        alloc,
+        b"\x92\x2a\xc3\xc0",
+        Structs::Lists,
+    );
+    assert!(rt; is_explained(rt, read, "not canonical (byte 3): nil"));
+    // A head that isn't canonical, which no strict read accepts.
+    let read: Result<(u8, bool), Explained> = from_slice_canonical_explained(
+        alloc,
+        b"\x92\xcc\x2a\xc3",
+        Structs::Lists,
+    );
+    assert!(rt; is_explained(rt, read, "not canonical at [0] (byte 1): the integer 42"));
+    let read: Result<(u8, bool), Explained> = from_slice_canonical_explained(
+        alloc,
+        b"\x92\x2a\xc3",
+        Structs::Lists,
+    );
+    assert!(rt; matches!(read, Ok((42, true))));
+    Ok(())
+}
+
+#[test]
+fn structs_are_canonical_in_one_form(rt: HostRuntime) -> Result<(), Fail> {
+    let alloc = rt.alloc();
+    let (list, map) = (
+        b"\x92\xa5Bobby\x08".as_slice(),
+        b"\x82\xa4name\xa5Bobby\xa3age\x08".as_slice(),
+    );
+    let read: Result<Dog, Explained> = from_slice_canonical_explained(alloc, list, Structs::Lists);
+    assert!(rt; matches!(read, Ok(dog) if dog.age == 8));
+    let read: Result<Dog, Explained> = from_slice_canonical_explained(alloc, map, Structs::Maps);
+    assert!(rt; matches!(read, Ok(dog) if dog.age == 8));
+    let read: Result<Dog, Explained> = from_slice_canonical_explained(alloc, map, Structs::Lists);
+    assert!(rt; is_explained(rt, read, "not canonical (byte 0): a map of 2 pairs"));
+    let read: Result<Dog, Explained> = from_slice_canonical_explained(alloc, list, Structs::Maps);
+    assert!(rt; is_explained(rt, read, "not canonical (byte 0): a list of 2 elements"));
+    Ok(())
 }

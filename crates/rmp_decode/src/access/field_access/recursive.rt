@@ -1,9 +1,8 @@
 //! The fields of a recursive struct.
 ghost use Rattle.std.specs.Prelude.{◌≡◌, ◌<◌, ◌⊎◌, Bool, true, false, Some, None, IfSome, IfNone, IfOk, IfErr, OnErr, MatchResult};
 ghost use Rattle.rmp_decode.specs.FieldAccess.{IsStructOpen, SameStruct, AtField, TakesPlace, NoPlace, FailsPlace};
-ghost use Rattle.rmp_decode.specs.FieldAccess.{fields_left, is_of_map, is_struct_sound, struct_lender, struct_reference, unsound};
+ghost use Rattle.rmp_decode.specs.FieldAccess.{fields_left, is_of_map, is_struct_sound, struct_reference, unsound};
 ghost use Rattle.rmp_decode.specs.Law.{IsFailedBefore};
-ghost use Rattle.rmp_decode.specs.State.{config_of};
 ghost use Rattle.rmp_decode.specs.Words.{field_of, fitting};
 
 use super::FieldAccess;
@@ -32,7 +31,7 @@ pub trait ReadPlaces<R: Source> {
         ensures none { IsStructOpen fields.old → IfOk result (λ o. IfNone o (NoPlace R.Source fields.old fields.new)) }
         ensures some { IsStructOpen fields.old → IfOk result (λ o. IfSome o (TakesPlace R.Source fields.old fields.new)) }
         ensures err { IsStructOpen fields.old → IfErr result
-            (FailsPlace R.Source (C.human (config_of (struct_lender fields.old))) lends fields.old fields.new) }
+            (FailsPlace R.Source C.human lends fields.old fields.new) }
         ensures fewer { IfOk result (λ o. IfSome o (λ _. fields_left fields.new < fields_left fields.old)) }
         ensures failed { OnErr result (is_struct_sound fields.new ≡ false) }
         ensures before { is_struct_sound fields.old ≡ false → MatchResult result (λ _. ⊥) IsFailedBefore × (fields.new ≡ fields.old) };
@@ -63,7 +62,7 @@ impl<'x, R: Source, C: SerializerConfig> FieldAccess<'x, R, C> {
         ensures none { IsStructOpen self.old → IfOk result (λ o. IfNone o (NoPlace R.Source self.old self.new)) }
         ensures some { IsStructOpen self.old → IfOk result (λ o. IfSome o (TakesPlace R.Source self.old self.new)) }
         ensures err { IsStructOpen self.old → IfErr result
-            (FailsPlace R.Source (C.human (config_of (struct_lender self.old))) P.lends self.old self.new) }
+            (FailsPlace R.Source C.human P.lends self.old self.new) }
         ensures fewer { IfOk result (λ o. IfSome o (λ _. fields_left self.new < fields_left self.old)) }
         ensures failed { OnErr result (is_struct_sound self.new ≡ false) }
         ensures before { is_struct_sound self.old ≡ false → MatchResult result (λ _. ⊥) IsFailedBefore × (self.new ≡ self.old) }

@@ -126,10 +126,11 @@ impl<
     #[inline(always)]
     fn finish(
         slots: EightSlots<A, B, D, E, G, H, I, J, F::Slots>,
-    ) -> Result<EightThen<A, B, D, E, G, H, I, J, F>, usize> {
+        missing: &mut usize,
+    ) -> Option<EightThen<A, B, D, E, G, H, I, J, F>> {
         let EightSlots { read } = slots;
-        match <(A, B, D, E, (G, H, I, J, F)) as Fields<'de, R>>::finish(read) {
-            Ok((first, second, third, fourth, (fifth, sixth, seventh, eighth, rest))) => Ok(
+        match <(A, B, D, E, (G, H, I, J, F)) as Fields<'de, R>>::finish(read, missing) {
+            Some((first, second, third, fourth, (fifth, sixth, seventh, eighth, rest))) => Some(
                 EightThen {
                     first,
                     second,
@@ -142,7 +143,7 @@ impl<
                     rest,
                 },
             ),
-            Err(place) => Err(place),
+            None => None,
         }
     }
 

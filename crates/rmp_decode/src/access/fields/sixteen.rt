@@ -228,14 +228,15 @@ impl<
     #[inline(always)]
     fn finish(
         slots: SixteenSlots<A, B, D, E, G, H, I, J, K, L, M, N, O, P, Q, T, F::Slots>,
-    ) -> Result<SixteenThen<A, B, D, E, G, H, I, J, K, L, M, N, O, P, Q, T, F>, usize> {
+        missing: &mut usize,
+    ) -> Option<SixteenThen<A, B, D, E, G, H, I, J, K, L, M, N, O, P, Q, T, F>> {
         let SixteenSlots { read } = slots;
         match <EightThen<A, B, D, E, G, H, I, J, EightThen<K, L, M, N, O, P, Q, T, F>> as Fields<
             'de,
             R,
-        >>::finish(read)
+        >>::finish(read, missing)
         {
-            Ok(parts) => {
+            Some(parts) => {
                 let EightThen {
                     first,
                     second,
@@ -258,7 +259,7 @@ impl<
                     eighth: sixteenth,
                     rest,
                 } = others;
-                Ok(SixteenThen {
+                Some(SixteenThen {
                     first,
                     second,
                     third,
@@ -278,7 +279,7 @@ impl<
                     rest,
                 })
             }
-            Err(place) => Err(place),
+            None => None,
         }
     }
 

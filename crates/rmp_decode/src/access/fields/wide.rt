@@ -66,10 +66,11 @@ impl<
     #[inline(always)]
     fn finish(
         slots: (Option<A>, (Option<B>, (Option<D>, (Option<E>, F::Slots)))),
-    ) -> Result<(A, B, D, E, F), usize> {
-        match <(A, (B, (D, (E, F)))) as Fields<'de, R>>::finish(slots) {
-            Ok((a, (b, (d, (e, others))))) => Ok((a, b, d, e, others)),
-            Err(place) => Err(place),
+        missing: &mut usize,
+    ) -> Option<(A, B, D, E, F)> {
+        match <(A, (B, (D, (E, F)))) as Fields<'de, R>>::finish(slots, missing) {
+            Some((a, (b, (d, (e, others))))) => Some((a, b, d, e, others)),
+            None => None,
         }
     }
 

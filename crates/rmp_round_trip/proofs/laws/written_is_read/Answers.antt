@@ -19,3 +19,8 @@ pub returns-clause-same : goal.returns-clause-same
 returns-clause-same g c = λ s v w b x h i d y m p e r.
     read_only (g.T.Deserialize.reads s.human g.R.ReadSlice.lends) g.T.RoundTrip.same (tree_of s (g.T.Serialize.data_of v s.human)) v w b x d y m
     (c.values_come_back.ensures.only s v h) i p e r
+
+pub returns-clause-equal : goal.returns-clause-equal
+returns-clause-equal g c = λ s v w b x h i d y m p e r human. c.values_come_back.ensures.alike human v w (
+    read_only (g.T.Deserialize.reads s.human g.R.ReadSlice.lends) g.T.RoundTrip.same (tree_of s (g.T.Serialize.data_of v s.human)) v w b x d y m
+    (c.values_come_back.ensures.only s v h) i p e r).0

@@ -1,4 +1,4 @@
-use Rattle.std.proofs.Common.{false, true, refl, inr}
+use Rattle.std.proofs.Common.{false, true, refl, sym, inr}
 use Rattle.std.proofs.lemmas.Result.{IfErr-weaker}
 use Rattle.rmp_encode.specs.Calls.{default_settings, IsSpelled, ToVecFails}
 use Rattle.rmp_encode.specs.Trees.{tree_of}
@@ -6,7 +6,7 @@ use Rattle.rmp_serde.proofs.CanonicalReads.{either, read_of, read_same, readable
 use Rattle.rmp_serde.proofs.canonical.from_slice_canonical.Goals as goal
 
 pub returns-in-Err-clause-err : goal.returns-in-Err-clause-err
-returns-in-Err-clause-err g c = λ ne v is alike deep spelled.
+returns-in-Err-clause-err g c = λ ne v is deep spelled.
     c.in-Err.ensures.err ne (read_of (g.T.Deserialize.reads false true) g.T.RoundTrip.same default_settings (λ x. g.T.Serialize.data_of x false) c.args.input.now
     v 1024 (c.values_come_back.ensures.read (λ _. refl) default_settings v is) deep spelled)
 
@@ -14,11 +14,11 @@ pub returns-clause-err : goal.returns-clause-err
 returns-clause-err g c =
     let w = c.in-Ok.value in
     let t = tree_of default_settings (g.T.Serialize.data_of w false) in
-    IfErr-weaker c.if_written.result _ _ (λ e h ne v is alike deep spelled.
+    IfErr-weaker c.if_written.result _ _ (λ e h ne v is deep spelled.
     written_else (g.T.Deserialize.reads false true) g.T.RoundTrip.same default_settings (λ x. g.T.Serialize.data_of x false) c.args.input.now
     (λ b. b.items) v w c.to_vec-written.result
-    (alike w (read_same (g.T.Deserialize.reads false true) g.T.RoundTrip.same default_settings (λ x. g.T.Serialize.data_of x false) c.args.input.now
-    v w 1024 (c.values_come_back.ensures.only default_settings v is) spelled c.in-Ok.ensures.ok)) spelled
+    (sym (c.values_come_back.ensures.alike false v w (read_same (g.T.Deserialize.reads false true) g.T.RoundTrip.same default_settings (λ x. g.T.Serialize.data_of x false) c.args.input.now
+    v w 1024 (c.values_come_back.ensures.only default_settings v is) spelled c.in-Ok.ensures.ok))) spelled
     (either (λ b. IsSpelled t b.items) (ToVecFails t) c.to_vec-written.result c.to_vec-written.ensures.bytes c.to_vec-written.ensures.err) (h ne))
     c.if_written.ensures.err
 

@@ -6,8 +6,8 @@ pub returns-in-Err-char_of : goal.returns-in-Err-char_of
 returns-in-Err-char_of g c =
     let e = c.in-Err-char_of.ensures in
     payload_refused g.R.Source _ _ _ _ _ refl c.as_bytes.result.now _ (search rules) (search rules) (search rules) (search rules)
-    (λ r. e.err r.0 r.1.1 (let is = r.1.0 in let same : c.as_bytes.result.now ≡ encode_utf8 r.0 = cc in same)) (search rules)
-    (λ _. char_memory c.as_bytes.result.now _ e.exact)
+    (λ r. e.0 r.0 r.1.1 (let is = r.1.0 in let same : c.as_bytes.result.now ≡ encode_utf8 r.0 = cc in same)) (search rules)
+    (λ _. char_memory c.as_bytes.result.now _ e.1)
 
 pub returns-in-Err : goal.returns-in-Err
 returns-in-Err g c =

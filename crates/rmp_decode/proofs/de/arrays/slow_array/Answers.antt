@@ -1,8 +1,8 @@
+use Rattle.std.proofs.Common.{inl, inr}
 use Rattle.rmp_decode.specs.Arrays.{Exactly}
-use Rattle.rmp_decode.proofs.Seqs.{seq_unopened}
+use Rattle.rmp_decode.proofs.RowEnds.{row_unopened}
 use Rattle.rmp_decode.proofs.de.arrays.slow_array.Goals as goal
 
-pub returns-in-Err-clause-law : goal.returns-in-Err-clause-law
-returns-in-Err-clause-law g c = seq_unopened g.R.Source
-    (Exactly g.row.N (g.T.Deserialize.reads (g.C.SerializerConfig.human c.args.de.now.config) g.R.ReadSlice.lends))
-    _ _ _ c.in-Err.ensures.err
+pub returns-in-Err : goal.returns-in-Err
+returns-in-Err g c = row_unopened (Exactly g.row.N (g.T.Deserialize.reads g.C.SerializerConfig.human g.R.ReadSlice.lends)) c.in-Err.ensures.err
+    (λ x. inr (inl x))

@@ -1,10 +1,7 @@
 use Rattle.std.proofs.Common.{◌∙◌, sym, subst, refl, arith, IsUtf8}
-use Rattle.rmp_wire.specs.declared.head.Head.TheVariants.{Text}
-use Rattle.rmp_decode.specs.Content.{not_string}
-use Rattle.rmp_decode.proofs.AnyReads.{no_text, short_text, end_no_text}
-use Rattle.rmp_decode.proofs.ContentErrors.{piece_cut, piece_whole}
+use Rattle.rmp_decode.specs.State.{failed_of}
+use Rattle.rmp_decode.proofs.AnyReads.{text_short, text_invalid}
 use Rattle.rmp_decode.proofs.Steps.{appended_is, kept_is}
-use Rattle.rmp_decode.proofs.Exactness.{none_told}
 use Rattle.rmp_decode.proofs.deserializer.Deserializer.append_text.Goals as goal
 
 pub returns-in-Ok-from_utf8-clause-ok : goal.returns-in-Ok-from_utf8-clause-ok
@@ -35,25 +32,13 @@ returns-in-Err-from_utf8-clause-err g c =
     let o = c.in-Ok.ensures.ok in
     let is = appended_is c.len-at.result c.args.bytes.now.items o.passes.bytes c.deref.result.now (c.deref.ensures.value ∙ o.whole)
     (omega (arith, c.len-at.ensures, c.args.bytes.now.ok.0)) in
-    let no : IsUtf8 o.passes.bytes → ⊥ = λ u. c.in-Err-from_utf8.ensures.cases.0 (subst IsUtf8 (sym is) u) in
-    record {
-      failed = refl;
-      stays = record { config = refl; room = refl; limit = refl; strict = refl; place = c.append.ensures.place };
-      err = λ n k. no_text c.args.len _ _ o.passes.bytes o.passes.taken o.passes.long no;
-      exact = λ n k. piece_whole c.args.len (not_string (Text c.args.len)) _ _ o.passes.bytes _ o.passes.taken o.passes.long (no, tt);
-      fault = none_told _ _ _ c.in-Ok.ensures.sound;
-      taken = λ n k u. record { bytes = o.passes.bytes; long = o.passes.long; taken = o.passes.taken };
-    }
+    text_invalid g.R.Source (failed_of c.args.self.now) _ _ c.append.ensures.place o.passes.bytes _ o.passes.long o.passes.taken c.in-Ok.ensures.sound
+    (λ u. c.in-Err-from_utf8.ensures.cases.0 (subst IsUtf8 (sym is) u))
 
 pub returns-in-Err-clause-err : goal.returns-in-Err-clause-err
-returns-in-Err-clause-err g c = record {
-  failed = refl;
-  stays = record { config = refl; room = refl; limit = refl; strict = refl; place = c.append.ensures.place };
-  err = λ n k. short_text c.args.len _ (c.in-Err.ensures.err n k);
-  exact = λ n k. piece_cut c.args.len (not_string (Text c.args.len)) _ _ (c.in-Err.ensures.err n k) (c.in-Err.ensures.end n k);
-  fault = c.in-Err.ensures.fault;
-  taken = λ n k u. absurd (end_no_text _ (c.in-Err.ensures.end n k) u);
-}
+returns-in-Err-clause-err g c =
+    let e = c.in-Err.ensures in
+    text_short g.R.Source (failed_of c.args.self.now) _ _ e.place _ e.err e.end e.fault
 
 pub returns-in-Err-from_utf8-clause-kept : goal.returns-in-Err-from_utf8-clause-kept
 returns-in-Err-from_utf8-clause-kept g c =

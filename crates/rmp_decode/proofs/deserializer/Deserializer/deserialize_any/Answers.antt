@@ -1,8 +1,7 @@
-use mathlib.Core.Option.{some}
-use Rattle.std.proofs.Common.{◌<◌, ◌∙◌, refl, sym, ap, subst, arith, rules, true, false}
+use Rattle.std.proofs.Common.{◌<◌, refl, sym, ap, subst, arith, rules, true, false}
 use Rattle.std.proofs.lemmas.Int.{to_z-of_z}
 use Rattle.std.specs.Int.{w8, w128}
-use Rattle.rmp_wire.specs.Msg.{truth, whole, float32, float64}
+use Rattle.rmp_wire.specs.Msg.{whole}
 use Rattle.rmp_decode.specs.Law.{TakesHead}
 use Rattle.rmp_decode.proofs.Anything.{any_fails}
 use Rattle.rmp_decode.proofs.Leaves.{nil_leaf, truth_leaf, whole_leaf, float32_leaf, float64_leaf, leaf_read}
@@ -12,7 +11,7 @@ pub returns-in-Array : goal.returns-in-Array
 returns-in-Array g c =
     let h = c.in-Ok.ensures.begun in
     let deep : 1 < c.args.self.now.room = c.in-Ok.ensures.deep ((false, c.in-Array.left), c.in-Array.is) in
-    let r = c.saturating_sub-inner.ensures in (
+    let r = c.inner_room-inner.ensures.list refl in (
       (refl, λ w. refl, tt),
       record {
         refused = tt;
@@ -36,7 +35,7 @@ pub returns-in-Map : goal.returns-in-Map
 returns-in-Map g c =
     let h = c.in-Ok.ensures.begun in
     let deep : 1 < c.args.self.now.room = c.in-Ok.ensures.deep ((true, c.in-Map.left), c.in-Map.is) in
-    let r = c.saturating_sub-inner.ensures in (
+    let r = c.inner_room-inner.ensures.list refl in (
       (refl, λ w. refl, tt),
       record {
         refused = tt;
@@ -56,76 +55,65 @@ returns-in-Map g c =
 
 pub returns-in-Nil : goal.returns-in-Nil
 returns-in-Nil g c = (
-  (ap (λ z. some z) (sym c.leaf.ensures.same_reference), λ w. refl, tt),
+  (refl, λ w. refl, tt),
   record {
     refused = tt;
-    same_reference = c.leaf.ensures.same_reference;
-    opened = leaf_read nil_leaf g.R.Source _ _ _ (_, _) c.in-Ok.ensures.begun _ tt _ c.in-Nil.is c.leaf.ensures.ready refl;
+    same_reference = refl;
+    opened = leaf_read nil_leaf g.R.Source _ _ _ (_, _) c.in-Ok.ensures.begun _ tt _ c.in-Nil.is refl refl;
   },
 )
 
 pub returns-in-Truth : goal.returns-in-Truth
 returns-in-Truth g c = (
-  (ap (λ z. some z) (sym c.leaf-in-Truth.ensures.same_reference), λ w. refl, tt),
+  (refl, λ w. refl, tt),
   record {
     refused = tt;
-    same_reference = c.leaf-in-Truth.ensures.same_reference;
-    opened = leaf_read truth_leaf g.R.Source _ _ _ (_, _) c.in-Ok.ensures.begun _ c.in-Truth.value _ c.in-Truth.is c.leaf-in-Truth.ensures.ready
-        (ap truth (sym c.leaf-in-Truth.ensures.value));
+    same_reference = refl;
+    opened = leaf_read truth_leaf g.R.Source _ _ _ (_, _) c.in-Ok.ensures.begun _ c.in-Truth.value _ c.in-Truth.is refl refl;
   },
 )
 
 pub returns-in-Whole : goal.returns-in-Whole
 returns-in-Whole g c = (
-  (ap (λ z. some z) (sym c.leaf-in-Whole.ensures.same_reference), λ w. refl, tt),
+  (refl, λ w. refl, tt),
   record {
     refused = tt;
-    same_reference = c.leaf-in-Whole.ensures.same_reference;
-    opened = leaf_read whole_leaf g.R.Source _ _ _ (_, _) c.in-Ok.ensures.begun _ c.in-Whole.value _ c.in-Whole.is c.leaf-in-Whole.ensures.ready
-        (ap whole (sym (c.leaf-in-Whole.ensures.value ∙ to_z-of_z w128 c.in-Whole.value (search rules))));
+    same_reference = refl;
+    opened = leaf_read whole_leaf g.R.Source _ _ _ (_, _) c.in-Ok.ensures.begun _ c.in-Whole.value _ c.in-Whole.is refl
+        (ap whole (sym (to_z-of_z w128 c.in-Whole.value (search rules))));
   },
 )
 
 pub returns-in-F32Bits : goal.returns-in-F32Bits
 returns-in-F32Bits g c = (
-  (ap (λ z. some z) (sym c.leaf-in-F32Bits.ensures.same_reference), λ w. refl, tt),
+  (refl, λ w. refl, tt),
   record {
     refused = tt;
-    same_reference = c.leaf-in-F32Bits.ensures.same_reference;
-    opened = leaf_read float32_leaf g.R.Source _ _ _ (_, _) c.in-Ok.ensures.begun _ c.in-F32Bits.value _ c.in-F32Bits.is c.leaf-in-F32Bits.ensures.ready
-        (ap float32 (sym c.leaf-in-F32Bits.ensures.value));
+    same_reference = refl;
+    opened = leaf_read float32_leaf g.R.Source _ _ _ (_, _) c.in-Ok.ensures.begun _ c.in-F32Bits.value _ c.in-F32Bits.is refl refl;
   },
 )
 
 pub returns-in-F64Bits : goal.returns-in-F64Bits
 returns-in-F64Bits g c = (
-  (ap (λ z. some z) (sym c.leaf-in-F64Bits.ensures.same_reference), λ w. refl, tt),
+  (refl, λ w. refl, tt),
   record {
     refused = tt;
-    same_reference = c.leaf-in-F64Bits.ensures.same_reference;
-    opened = leaf_read float64_leaf g.R.Source _ _ _ (_, _) c.in-Ok.ensures.begun _ c.in-F64Bits.value _ c.in-F64Bits.is c.leaf-in-F64Bits.ensures.ready
-        (ap float64 (sym c.leaf-in-F64Bits.ensures.value));
+    same_reference = refl;
+    opened = leaf_read float64_leaf g.R.Source _ _ _ (_, _) c.in-Ok.ensures.begun _ c.in-F64Bits.value _ c.in-F64Bits.is refl refl;
   },
 )
 
 pub returns-in-Text : goal.returns-in-Text
 returns-in-Text g c = (
   (refl, λ w. refl, tt),
-  record {
-    refused = tt;
-    same_reference = refl;
-    opened = record { marker = c.in-Ok.field-0-0; begun = rw c.in-Text.is at c.in-Ok.ensures.begun };
-  },
+  record { refused = tt; same_reference = refl; opened = record { marker = c.in-Ok.field-0-0; begun = rw c.in-Text.is at c.in-Ok.ensures.begun } },
 )
 
 pub returns-in-Bin : goal.returns-in-Bin
 returns-in-Bin g c = (
   (refl, λ w. refl, tt),
-  record {
-    refused = tt;
-    same_reference = refl;
-    opened = record { marker = c.in-Ok.field-0-0; begun = rw c.in-Bin.is at c.in-Ok.ensures.begun };
-  },
+  record { refused = tt; same_reference = refl; opened = record { marker = c.in-Ok.field-0-0; begun = rw c.in-Bin.is at c.in-Ok.ensures.begun } },
 )
 
 pub returns-in-Ext : goal.returns-in-Ext

@@ -4,7 +4,7 @@ use Rattle.rmp_decode.proofs.Structs.{FieldsRun}
 use Rattle.rmp_decode.proofs.deserializer.Deserializer.opened_fields.Given as goal
 
 abbrev pub invariant-loop-map : goal.invariant-loop-map
-invariant-loop-map g l = FieldsRun g.R.Source (bytes_of l.fn.names) (g.F.Fields.holds (g.C.SerializerConfig.human l.fn.self.config) g.R.ReadSlice.lends)
+invariant-loop-map g l = FieldsRun g.R.Source (bytes_of l.fn.names) (g.F.Fields.holds g.C.SerializerConfig.human g.R.ReadSlice.lends)
     l.initial.map l.map l.slots
 
 abbrev pub decreases-loop-map : goal.decreases-loop-map

@@ -1,4 +1,4 @@
-use Rattle.std.proofs.Common.{◌≡◌, ◌∙◌, ap, subst, sym, refl, rules, length}
+use Rattle.std.proofs.Common.{◌∙◌, ap, subst, sym, refl, rules, length}
 use Rattle.std.proofs.lemmas.Int.{to_z-of_z}
 use Rattle.std.specs.Int.{w128}
 use Rattle.rmp_decode.specs.Content.{IsRawHead}

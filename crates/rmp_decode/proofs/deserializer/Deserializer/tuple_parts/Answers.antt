@@ -1,37 +1,10 @@
-use Rattle.std.proofs.Common.{subst}
-use Rattle.std.specs.Prelude.{Ok, Err}
-use Rattle.rmp_wire.specs.declared.head.Head.TheVariants.{Array}
-use Rattle.rmp_decode.specs.BufferedHeads.{ConsumesHead}
-use Rattle.rmp_decode.specs.Fields.{given_all}
-use Rattle.rmp_decode.specs.Law.{Lawful}
-use Rattle.rmp_decode.specs.Seq.{OfRow}
-use Rattle.rmp_decode.specs.declared.deserializer.Deserializer.{Deserializer}
-use Rattle.rmp_decode.proofs.FieldRows.{tuple_law, tuple_refused, if_err}
+use Rattle.rmp_decode.proofs.FieldReads.{row_tuple}
 use Rattle.rmp_decode.proofs.deserializer.Deserializer.tuple_parts.Goals as goal
 
-pub returns-in-Some-clause-law : goal.returns-in-Some-clause-law
-returns-in-Some-clause-law g c =
-    let front = subst (λ z. ConsumesHead g.R.Source (Array z) c.args.self.now c.take_nested.new.self) c.requires.count
-    c.in-Some.ensures.taken in
-    tuple_law g.R.Source g.C.SerializerConfig.human g.R.ReadSlice.lends g.F.Fields.reads g.F.Fields.parts c.args.self.now c.take_nested.new.self
-    c.row_ahead.new.self g.F.Fields.count c.in-Some.ensures.deep front c.row_ahead.result c.row_ahead.ensures.ok c.row_ahead.ensures.err
-
-pub returns-in-Some-clause-refused : goal.returns-in-Some-clause-refused
-returns-in-Some-clause-refused g c = λ _.
-    let front = subst (λ z. ConsumesHead g.R.Source (Array z) c.args.self.now c.take_nested.new.self) c.requires.count
-    c.in-Some.ensures.taken in
-    if_err c.row_ahead.result (λ e w. tuple_refused g.R.Source g.C.SerializerConfig.human g.R.ReadSlice.lends g.F.Fields.reads g.F.Fields.parts
-    c.args.self.now c.take_nested.new.self
-    c.row_ahead.new.self g.F.Fields.count c.in-Some.ensures.deep front e w) c.row_ahead.ensures.refused
-
-pub returns-in-Ok-clause-law : goal.returns-in-Ok-clause-law
-returns-in-Ok-clause-law g c =
-    subst (λ (z : Deserializer g.row.R.Denot g.row.C.Denot). Lawful g.R.Source (λ m v. OfRow
-    (λ ms. g.F.Fields.reads (g.C.SerializerConfig.human z.config) g.R.ReadSlice.lends (given_all ms) v) m) z c.opened_tuple.new.self
-    (Ok c.in-Ok.values)) c.in-None.ensures.kept c.in-Ok.ensures.law
+pub returns-in-Some : goal.returns-in-Some
+returns-in-Some g c =
+    let r = row_tuple c.requires.count c.in-Some.ensures.deep c.in-Some.ensures.taken c.row_ahead.ensures in
+    record { law = r.law; refused = r.refused; memory = r.memory }
 
 pub returns-in-Err-clause-law : goal.returns-in-Err-clause-law
-returns-in-Err-clause-law g c =
-    subst (λ (z : Deserializer g.row.R.Denot g.row.C.Denot). Lawful g.R.Source (λ m v. OfRow
-    (λ ms. g.F.Fields.reads (g.C.SerializerConfig.human z.config) g.R.ReadSlice.lends (given_all ms) v) m) z c.opened_tuple.new.self
-    (Err c.in-Err.e)) c.in-None.ensures.kept c.in-Err.ensures.law
+returns-in-Err-clause-law g c = rw c.in-None.ensures.kept at c.in-Err.ensures.law

@@ -1,4 +1,4 @@
-use Rattle.std.proofs.Common.{◌≡◌, ◌≤◌, ◌∙◌, sym, ap, arith, length, rules}
+use Rattle.std.proofs.Common.{◌∙◌, sym, ap, arith, length}
 use Rattle.std.proofs.lemmas.List.{length-take-le}
 use Rattle.rmp_decode.proofs.Words.{all_fits}
 use Rattle.rmp_decode.proofs.text.OwnText.cut.Goals as goal

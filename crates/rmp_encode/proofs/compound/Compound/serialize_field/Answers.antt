@@ -7,8 +7,8 @@ pub returns-in-Ok-clause-writes : goal.returns-in-Ok-clause-writes
 returns-in-Ok-clause-writes g c = λ old t rest h. record {
   sound = h.sound;
   left_is = field_left _ (settings_of old).named c.args.self.now.left _ _ rest c.requires.kind (search rules) h.left_is;
-  state = c.in-Ok.ensures.writes old t rest h.state;
+  state = c.in-Ok.ensures.parts.takes.writes old t rest h.state;
 }
 
 pub returns-in-Err-clause-writes : goal.returns-in-Err-clause-writes
-returns-in-Err-clause-writes g c = λ old t rest h. c.in-Err.ensures.writes old t rest h.state
+returns-in-Err-clause-writes g c = λ old t rest h. c.in-Err.ensures.parts.takes.writes old t rest h.state

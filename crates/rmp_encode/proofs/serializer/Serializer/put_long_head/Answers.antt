@@ -1,17 +1,14 @@
+use Rattle.std.proofs.Common.{refl}
 use Rattle.rmp_encode.specs.Going.{head_at}
-use Rattle.rmp_encode.proofs.Leaves.{wire_head, wire_marker}
+use Rattle.rmp_encode.proofs.Promises.{head_by_wire}
 use Rattle.rmp_encode.proofs.serializer.Serializer.put_long_head.Goals as goal
 
-pub returns-then-pairs-clause-writes : goal.returns-then-pairs-clause-writes
+pub returns-then-pairs : goal.returns-then-pairs
 unfolding head_at
-returns-then-pairs-clause-writes g c = rw c.if-pairs.true (wire_head g.W.Sink _ c.write_map_len.result c.answer.ensures.is c.write_map_len.ensures.writes)
+returns-then-pairs g c = rw c.if-pairs.true (head_by_wire g.W.Sink c.write_map_len.result c.answer.ensures.is c.answer.ensures.error
+    c.write_map_len.ensures.writes (record { settings = refl; place = c.write_map_len.ensures.place }))
 
-pub returns-clause-writes : goal.returns-clause-writes
+pub returns : goal.returns
 unfolding head_at
-returns-clause-writes g c = rw c.if-pairs.false (wire_head g.W.Sink _ c.write_array_len.result c.answer-2.ensures.is c.write_array_len.ensures.writes)
-
-pub returns-then-pairs-clause-marker : goal.returns-then-pairs-clause-marker
-returns-then-pairs-clause-marker g c = wire_marker g.W.Sink _ c.write_map_len.result c.answer.ensures.is c.write_map_len.ensures.writes
-
-pub returns-clause-marker : goal.returns-clause-marker
-returns-clause-marker g c = wire_marker g.W.Sink _ c.write_array_len.result c.answer-2.ensures.is c.write_array_len.ensures.writes
+returns g c = rw c.if-pairs.false (head_by_wire g.W.Sink c.write_array_len.result c.answer-2.ensures.is c.answer-2.ensures.error
+    c.write_array_len.ensures.writes (record { settings = refl; place = c.write_array_len.ensures.place }))

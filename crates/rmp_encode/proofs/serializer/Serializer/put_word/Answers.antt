@@ -1,15 +1,11 @@
-use Rattle.std.proofs.Common.{arith}
-use Rattle.rmp_encode.proofs.Going.{never_refused_by}
-use Rattle.rmp_encode.proofs.Leaves.{bytes_from, text_after}
-use Rattle.rmp_encode.proofs.Refusals.{on_sink}
+use Rattle.std.proofs.Common.{arith, length}
+use Rattle.rmp_wire.specs.Heads.{fits_head}
+use Rattle.rmp_wire.specs.Msg.{text}
+use Rattle.rmp_encode.proofs.Leaves.{bytes_from}
+use Rattle.rmp_encode.proofs.Promises.{message_by_head}
 use Rattle.rmp_encode.proofs.serializer.Serializer.put_word.Goals as goal
 
-pub returns-clause-writes : goal.returns-clause-writes
-returns-clause-writes g c = text_after g.W.Sink tt c.args.word.now (omega arith) (bytes_from c.args.word.now (λ i. omega (arith, c.type_inv.word i)))
-    c.put_short_word.ensures.writes
-
-pub returns-clause-refused : goal.returns-clause-refused
-returns-clause-refused g c = never_refused_by g.W.Sink.takes_memory _ _ _ _ c.put_short_word.result c.put_short_word.ensures.writes.cause
-
-pub returns-clause-error : goal.returns-clause-error
-returns-clause-error g c = on_sink _ c.put_short_word.result c.put_short_word.ensures.error
+pub returns : goal.returns
+unfolding fits_head
+returns g c = message_by_head g.W.Sink (text c.args.word.now) (length c.args.word.now) c.put_short_word.result
+    (omega arith, bytes_from c.args.word.now (λ i. omega (arith, c.type_inv.word i))) (omega arith) c.put_short_word.ensures

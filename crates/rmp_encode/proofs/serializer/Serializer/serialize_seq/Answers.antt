@@ -1,15 +1,13 @@
-use Rattle.std.proofs.Common.{rules, refl, subst, sym, false, []}
+use Rattle.std.proofs.Common.{rules, refl, subst, sym, false}
 use Rattle.std.proofs.lemmas.Result.{err_from_is_err_and}
-use Rattle.rmp_encode.specs.Going.{open_of}
+use Rattle.rmp_encode.specs.Going.{open_of, FailsToOpen}
 use Rattle.rmp_encode.specs.Opens.{IsLong, MayOpen, head_items}
 use Rattle.rmp_encode.proofs.Keeping.{keeping_opened}
-use Rattle.rmp_encode.proofs.Markers.{order_first}
-use Rattle.rmp_encode.proofs.Lists.{made_list, not_less}
-use Rattle.rmp_encode.specs.Refusals.{OfLength}
-use Rattle.rmp_encode.specs.Ser.{sink_of}
-use Rattle.std.specs.Prelude.{Err}
-use Rattle.rmp_encode.specs.Writes.{FirstAtMarker}
-use Rattle.rmp_encode.proofs.Refusals.{of_past}
+use Rattle.rmp_encode.proofs.Promises.{not_opened}
+use Rattle.rmp_encode.proofs.Lists.{made_list}
+use Rattle.std.specs.Prelude.{Err, Some}
+use Rattle.rmp_encode.specs.Trees.{sequence_of}
+use Rattle.rmp_encode.proofs.Refusals.{long_past}
 use Rattle.rmp_encode.proofs.serializer.Serializer.serialize_seq.Goals as goal
 
 pub returns-in_default : goal.returns-in_default
@@ -37,19 +35,13 @@ returns-in_default g c = (
 pub returns-in_err-put_len : goal.returns-in_err-put_len
 returns-in_err-put_len g c =
     let p = err_from_is_err_and c.from_residual.result c.from_residual.ensures.1 in
+    let n = c.in-Some.n in
     rw (p.1, p.2) (
       (
         refl,
         λ _. tt,
-        record {
-          keeps = c.put_len.ensures.keeps;
-          refused = c.in_err-put_len.ensures.stays;
-          error = subst (λ l. OfLength (¬ MayOpen l) c.in_err-put_len.field-0.0) (sym c.in-Some.is) (of_past _ _ c.in_err-put_len.ensures.error);
-          long = λ h. c.in_err-put_len.ensures.long (not_less (subst (λ l. ¬ MayOpen l) c.in-Some.is h));
-          marker = subst (λ l. FirstAtMarker g.W.Sink {A = Unit {0}} (head_items false l) (sink_of c.args.self.now) (sink_of c.put_len.new.self) (Err c.in_err-put_len.field-0.0)) (sym c.in-Some.is)
-              (order_first g.W.Sink _ (sink_of c.args.self.now) (sink_of c.put_len.new.self) c.in_err-put_len.field-0.0 c.in_err-put_len.ensures.order);
-          writes = λ all e. c.in_err-put_len.ensures.begins _ _ (made_list _ _ all (subst (λ l. IsLong l all) c.in-Some.is e));
-        },
+        subst (λ l. FailsToOpen g.W.Sink {A = _} (head_items false l) (MayOpen l) (IsLong l) sequence_of c.args.self.now (Err c.in_err-put_len.field-0.0) c.put_len.new.self)
+            (sym c.in-Some.is) (not_opened g.W.Sink (IsLong (Some n)) sequence_of (λ all. all) (long_past n) (λ all e. made_list _ n all e) c.in_err-put_len.ensures),
       ),
       search rules,
     )

@@ -1,66 +1,34 @@
-use Rattle.std.proofs.Common.{length, arith, rules, refl, subst}
+use Rattle.std.proofs.Common.{length, arith, rules, refl, ◌≡◌}
 use Rattle.std.proofs.lemmas.Result.{err_from_is_err_and}
-use Rattle.rmp_wire.specs.Spelling.{IsBytes}
+use Rattle.std.specs.List.{flat_map}
+use Rattle.rmp_encode.specs.Ser.{settings_of}
+use Rattle.rmp_encode.specs.Trees.{field_parts, struct_variant_of}
 use Rattle.rmp_encode.proofs.Fields.{many_fields}
 use Rattle.rmp_encode.proofs.Leaves.{bytes_from}
+use Rattle.rmp_encode.proofs.Promises.{not_opened}
+use Rattle.rmp_encode.proofs.Refusals.{long_not}
 use Rattle.rmp_encode.proofs.Variants.{made_struct_variant}
-use Rattle.std.specs.Prelude.{Err}
-use Rattle.rmp_encode.specs.Going.{head_at}
-use Rattle.rmp_encode.specs.Ser.{sink_of}
-use Rattle.rmp_encode.specs.Trees.{variant_items}
-use Rattle.rmp_encode.specs.Writes.{FirstAtMarker}
-use Rattle.rmp_encode.proofs.Refusals.{long_not, of_weaker}
-use Rattle.rmp_encode.proofs.Markers.{order_first}
 use Rattle.rmp_encode.proofs.serializer.Serializer.serialize_struct_variant.Goals as goal
 
 pub returns-in_err-open_variant : goal.returns-in_err-open_variant
 returns-in_err-open_variant g c =
     let p = err_from_is_err_and c.from_residual.result c.from_residual.ensures.1 in
-    let is_bytes : IsBytes c.args.variant.now = bytes_from c.args.variant.now (λ i. omega (arith, c.type_inv.variant i)) in
+    let small = bytes_from c.args.variant.now (λ i. omega (arith, c.type_inv.variant i)) in
     rw (p.1, p.2) (
       (
         refl,
         λ _. tt,
-        record {
-          keeps = c.open_variant.ensures.keeps;
-          refused = c.in_err-open_variant.ensures.stays;
-          error = of_weaker (long_not (length c.args.variant.now) c.args.len) _ c.in_err-open_variant.ensures.error;
-          long = c.in_err-open_variant.ensures.long;
-          marker = order_first g.W.Sink _ (sink_of c.args.self.now) (sink_of c.open_variant.new.self) c.in_err-open_variant.field-0.0
-              (rw c.is_named.ensures at c.in_err-open_variant.ensures.order);
-          writes = λ all e. (rw c.is_named.ensures at c.in_err-open_variant.ensures.begins) _ _
-              (made_struct_variant _ c.args.variant.now c.args.len all is_bytes e);
-        },
+        not_opened g.W.Sink (λ fs. length fs ≡ c.args.len) (struct_variant_of c.args.variant.now)
+            (flat_map (field_parts (settings_of c.args.self.now).named)) (long_not (length c.args.variant.now) c.args.len)
+            (λ fs e. made_struct_variant _ c.args.variant.now c.args.len fs small e) (rw c.is_named.ensures at c.in_err-open_variant.ensures),
       ),
       search rules,
     )
 
 pub returns : goal.returns
 returns g c =
-    let is_bytes : IsBytes c.args.variant.now = bytes_from c.args.variant.now (λ i. omega (arith, c.type_inv.variant i)) in (
+    let small = bytes_from c.args.variant.now (λ i. omega (arith, c.type_inv.variant i)) in
+    let o = rw c.is_named.ensures at c.in_ok-open_variant.ensures in (
       (refl, λ _. refl, tt),
-      (
-        refl,
-        (
-          c.in_ok-open_variant.ensures.fits,
-          (
-            refl,
-            (
-              refl,
-              (
-                refl,
-                (
-                  λ all e. record {
-                    sound = refl;
-                    left_is = many_fields _ all c.args.len e;
-                    state = (rw c.is_named.ensures at c.in_ok-open_variant.ensures.begins) _ _
-                        (made_struct_variant _ c.args.variant.now c.args.len all is_bytes e);
-                  },
-                  c.open_variant.ensures.keeps,
-                ),
-              ),
-            ),
-          ),
-        ),
-      ),
+      (refl, (o.fits, (refl, (refl, (refl, (λ fs e. record { sound = refl; left_is = many_fields _ fs c.args.len e; state = o.begins _ _ (made_struct_variant _ c.args.variant.now c.args.len fs small e) }, o.keeps)))))),
     )

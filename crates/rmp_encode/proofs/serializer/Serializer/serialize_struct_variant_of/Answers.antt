@@ -1,58 +1,46 @@
-use Rattle.std.proofs.Common.{arith, length, ◌∷◌}
-use Rattle.std.specs.Prelude.{◌||◌}
+use Rattle.std.proofs.Common.{arith, length, ◌∷◌, sym, ◌∙◌}
+use Rattle.std.specs.Prelude.{Err}
 use Rattle.std.proofs.lemmas.Result.{err_from_is_err_and}
 use Rattle.std.specs.List.{flat_map}
-use Rattle.rmp_encode.specs.Trees.{field_parts, fields_by}
-use Rattle.rmp_encode.proofs.Fields.{fields_many}
-use Rattle.rmp_encode.proofs.Going.{all_written, keeps_then}
-use Rattle.rmp_encode.proofs.Leaves.{bytes_from}
-use Rattle.rmp_encode.proofs.Variants.{made_struct_variant}
-use Rattle.rmp_encode.proofs.Parts.{part_or}
-use Rattle.rmp_encode.proofs.Refusals.{long_both, long_after, of_no_part, of_weaker, on_parts_weaker}
+use Rattle.rmp_encode.specs.Going.{head_at}
+use Rattle.rmp_encode.specs.Markers.{items_of, pieces_by}
 use Rattle.rmp_encode.specs.Refusals.{lengths}
-use Rattle.rmp_encode.proofs.Markers.{pieces_as, pieces_stop, pieces_then}
 use Rattle.rmp_encode.specs.Ser.{settings_of}
-use Rattle.rmp_encode.specs.Markers.{pieces_by}
+use Rattle.rmp_encode.specs.Trees.{field_parts, fields_by, variant_items}
+use Rattle.rmp_encode.proofs.Fields.{fields_many}
+use Rattle.rmp_encode.proofs.Leaves.{bytes_from}
+use Rattle.rmp_encode.proofs.Names.{ends_at_long}
+use Rattle.rmp_encode.proofs.Promises.{all_begun, as_parts, none_begun}
+use Rattle.rmp_encode.proofs.Refusals.{long_after, long_both}
+use Rattle.rmp_encode.proofs.Variants.{made_struct_variant}
 use Rattle.rmp_encode.proofs.serializer.Serializer.serialize_struct_variant_of.Goals as goal
 
-pub returns-in_err-open_variant-clause-writes : goal.returns-in_err-open_variant-clause-writes
-returns-in_err-open_variant-clause-writes g c =
+pub returns-in_err-open_variant : goal.returns-in_err-open_variant
+returns-in_err-open_variant g c =
     let p = err_from_is_err_and c.from_residual.result c.from_residual.ensures.1 in
-    rw (p.1, p.2) (part_or g.W.Sink _ ((rw (c.is_named.ensures, c.len.ensures) at c.in_err-open_variant.ensures.begins) _ _
-    (made_struct_variant _ c.args.variant.now g.E.Elements.count _ (bytes_from c.args.variant.now (λ i. omega (arith, c.type_inv.variant i)))
-    (fields_many c.args.names.now _ _ c.requires (g.E.Elements.counted c.args.elements.now _)))))
+    let small = bytes_from c.args.variant.now (λ i. omega (arith, c.type_inv.variant i)) in
+    let many = fields_many c.args.names.now _ _ c.requires (g.E.Elements.counted c.args.elements.now _) in
+    let made = made_struct_variant _ c.args.variant.now g.E.Elements.count _ small many in
+    let w = none_begun g.W.Sink g.E.Elements.takes_memory (λ s. flat_map (field_parts s.named) (fields_by c.args.names.now (g.E.Elements.parts_of c.args.elements.now s.human)))
+    (λ s. pieces_by s.named c.args.names.now (g.E.Elements.pieces c.args.elements.now s)) (g.E.Elements.refusals c.args.elements.now) (g.E.Elements.are_values c.args.elements.now)
+    made (long_both (length c.args.variant.now) g.E.Elements.count (lengths c.args.names.now))
+    (rw (c.is_named.ensures, c.len.ensures) at c.in_err-open_variant.ensures) in
+    let name = ends_at_long g.W.Sink c.args.names.now (g.E.Elements.parts_of c.args.elements.now (settings_of c.args.self.now).human)
+    (λ b. items_of (variant_items c.args.variant.now (head_at b g.E.Elements.count))) (g.E.Elements.pieces c.args.elements.now (settings_of c.args.self.now))
+    (Err _) (c.requires ∙ sym (g.E.Elements.counted c.args.elements.now _)) made w.writes w.marker in
+    rw (p.1, p.2) (record { writes = w.writes; keeps = w.keeps; marker = w.marker; error = w.error; value = w.value; long_name = name; long = λ le. w.refused (λ k. let lt = k.0 in omega (arith, le, lt)); long_count = λ le. w.refused (λ k. let lt = k.1 in omega (arith, le, lt)) })
 
-pub returns-clause-writes : goal.returns-clause-writes
-returns-clause-writes g c =
-    all_written g.W.Sink (λ s. g.E.Elements.takes_memory s || g.W.Sink.takes_memory)
-    (λ s. flat_map (field_parts s.named) (fields_by c.args.names.now (g.E.Elements.parts_of c.args.elements.now s.human))) _ _ c.write_fields.result
-    c.write_fields.ensures.writes c.args.self.now _ ((rw (c.is_named.ensures, c.len.ensures) at c.in_ok-open_variant.ensures.begins) _ _
-    (made_struct_variant _ c.args.variant.now g.E.Elements.count _ (bytes_from c.args.variant.now (λ i. omega (arith, c.type_inv.variant i)))
-    (fields_many c.args.names.now _ _ c.requires (g.E.Elements.counted c.args.elements.now _))))
-
-pub returns-clause-keeps : goal.returns-clause-keeps
-returns-clause-keeps g c = keeps_then g.W.Sink c.open_variant.ensures.keeps c.write_fields.ensures.keeps
-
-pub returns-in_err-open_variant-clause-error : goal.returns-in_err-open_variant-clause-error
-returns-in_err-open_variant-clause-error g c =
-    let p = err_from_is_err_and c.from_residual.result c.from_residual.ensures.1 in
-    rw (p.1, p.2) (of_no_part _ (g.E.Elements.refusals c.args.elements.now) _
-    (of_weaker (long_both (length c.args.variant.now) g.E.Elements.count (lengths c.args.names.now)) _
-    (rw c.len.ensures at c.in_err-open_variant.ensures.error)))
-
-pub returns-clause-error : goal.returns-clause-error
-returns-clause-error g c = on_parts_weaker (λ h. long_after (length c.args.variant.now) (g.E.Elements.count ∷ lengths c.args.names.now)
-    (long_after g.E.Elements.count (lengths c.args.names.now) h)) (g.E.Elements.refusals c.args.elements.now) c.write_fields.result
-    c.write_fields.ensures.error
-
-pub returns-in_err-open_variant-clause-marker : goal.returns-in_err-open_variant-clause-marker
-returns-in_err-open_variant-clause-marker g c =
-    let p = err_from_is_err_and c.from_residual.result c.from_residual.ensures.1 in
-    rw (p.1, p.2) (pieces_stop g.W.Sink (pieces_by (settings_of c.args.self.now).named c.args.names.now (g.E.Elements.pieces c.args.elements.now (settings_of c.args.self.now)))
-    (rw (c.is_named.ensures, c.len.ensures) at c.in_err-open_variant.ensures.order))
-
-pub returns-clause-marker : goal.returns-clause-marker
-returns-clause-marker g c =
-    pieces_then g.W.Sink c.write_fields.result (rw (c.is_named.ensures, c.len.ensures) at c.in_ok-open_variant.ensures.order)
-    (pieces_as g.W.Sink (λ s. pieces_by s.named c.args.names.now (g.E.Elements.pieces c.args.elements.now s))
-    c.open_variant.ensures.keeps.settings c.write_fields.ensures.marker)
+pub returns : goal.returns
+returns g c =
+    let small = bytes_from c.args.variant.now (λ i. omega (arith, c.type_inv.variant i)) in
+    let many = fields_many c.args.names.now _ _ c.requires (g.E.Elements.counted c.args.elements.now _) in
+    let made = made_struct_variant _ c.args.variant.now g.E.Elements.count _ small many in
+    let e = c.write_fields.ensures in
+    let w = all_begun g.W.Sink g.E.Elements.takes_memory c.write_fields.result made
+    (λ h. long_after (length c.args.variant.now) (g.E.Elements.count ∷ lengths c.args.names.now) (long_after g.E.Elements.count (lengths c.args.names.now) h)) (rw (c.is_named.ensures, c.len.ensures) at c.in_ok-open_variant.ensures)
+    (as_parts g.W.Sink (λ s. flat_map (field_parts s.named) (fields_by c.args.names.now (g.E.Elements.parts_of c.args.elements.now s.human)))
+    (λ s. pieces_by s.named c.args.names.now (g.E.Elements.pieces c.args.elements.now s)) e.writes e.keeps e.marker e.error e.value) in
+    let name = ends_at_long g.W.Sink c.args.names.now (g.E.Elements.parts_of c.args.elements.now (settings_of c.args.self.now).human)
+    (λ b. items_of (variant_items c.args.variant.now (head_at b g.E.Elements.count))) (g.E.Elements.pieces c.args.elements.now (settings_of c.args.self.now))
+    c.write_fields.result (c.requires ∙ sym (g.E.Elements.counted c.args.elements.now _)) made w.writes w.marker in
+    record { writes = w.writes; keeps = w.keeps; marker = w.marker; error = w.error; value = w.value; long_name = name; long = λ le. w.refused (λ k. let lt = k.0 in omega (arith, le, lt)); long_count = λ le. w.refused (λ k. let lt = k.1 in omega (arith, le, lt)) }

@@ -1,10 +1,9 @@
-use Rattle.std.proofs.Common.{rules, refl, []}
+use Rattle.std.proofs.Common.{rules, refl, length, ◌≡◌}
 use Rattle.std.proofs.lemmas.Result.{err_from_is_err_and}
-use Rattle.rmp_encode.proofs.Markers.{order_first}
-use Rattle.rmp_encode.proofs.Lists.{made_list, not_less}
-use Rattle.rmp_encode.specs.Ser.{sink_of}
-use Rattle.std.specs.Prelude.{Err}
-use Rattle.rmp_encode.proofs.Refusals.{of_past}
+use Rattle.rmp_encode.specs.Trees.{sequence_of}
+use Rattle.rmp_encode.proofs.Lists.{made_list}
+use Rattle.rmp_encode.proofs.Promises.{not_opened}
+use Rattle.rmp_encode.proofs.Refusals.{long_past}
 use Rattle.rmp_encode.proofs.serializer.Serializer.serialize_tuple_struct.Goals as goal
 
 pub returns-in_err-put_len : goal.returns-in_err-put_len
@@ -14,38 +13,15 @@ returns-in_err-put_len g c =
       (
         refl,
         λ _. tt,
-        record {
-          keeps = c.put_len.ensures.keeps;
-          refused = c.in_err-put_len.ensures.stays;
-          error = of_past c.args.len _ c.in_err-put_len.ensures.error;
-          long = λ h. c.in_err-put_len.ensures.long (not_less h);
-          marker = order_first g.W.Sink _ (sink_of c.args.self.now) (sink_of c.put_len.new.self) c.in_err-put_len.field-0.0 c.in_err-put_len.ensures.order;
-          writes = λ all e. c.in_err-put_len.ensures.begins _ _ (made_list _ c.args.len all e);
-        },
+        not_opened g.W.Sink (λ all. length all ≡ c.args.len) sequence_of (λ all. all) (long_past c.args.len) (λ all e. made_list _ c.args.len all e)
+            c.in_err-put_len.ensures,
       ),
       search rules,
     )
 
 pub returns : goal.returns
-returns g c = (
-  (refl, λ _. refl, tt),
-  (
-    refl,
-    (
-      c.in_ok-put_len.ensures.fits,
-      (
-        refl,
-        (
-          refl,
-          (
-            refl,
-            (
-              λ all e. record { sound = refl; left_is = e; state = c.in_ok-put_len.ensures.begins _ _ (made_list _ c.args.len all e) },
-              c.put_len.ensures.keeps,
-            ),
-          ),
-        ),
-      ),
-    ),
-  ),
-)
+returns g c =
+    let o = c.in_ok-put_len.ensures in (
+      (refl, λ _. refl, tt),
+      (refl, (o.fits, (refl, (refl, (refl, (λ all e. record { sound = refl; left_is = e; state = o.begins _ _ (made_list _ c.args.len all e) }, o.keeps)))))),
+    )

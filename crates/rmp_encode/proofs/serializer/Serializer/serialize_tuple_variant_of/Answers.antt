@@ -1,49 +1,27 @@
-use Rattle.std.proofs.Common.{arith}
-use Rattle.std.specs.Prelude.{◌||◌}
+use Rattle.std.proofs.Common.{arith, length, ◌∷◌, []}
+use Rattle.rmp_encode.specs.Refusals.{AnyLong}
 use Rattle.std.proofs.lemmas.Result.{err_from_is_err_and}
-use Rattle.rmp_encode.proofs.Going.{all_written, keeps_then}
 use Rattle.rmp_encode.proofs.Leaves.{bytes_from}
+use Rattle.rmp_encode.proofs.Promises.{all_begun, as_parts, none_begun}
 use Rattle.rmp_encode.proofs.Variants.{made_tuple_variant}
-use Rattle.rmp_encode.proofs.Parts.{part_or}
-use Rattle.rmp_encode.proofs.Refusals.{of_no_part, on_parts_weaker}
-use Rattle.rmp_encode.proofs.Markers.{pieces_as, pieces_stop, pieces_then}
-use Rattle.rmp_encode.specs.Ser.{settings_of}
 use Rattle.rmp_encode.proofs.serializer.Serializer.serialize_tuple_variant_of.Goals as goal
 
-pub returns-in_err-open_variant-clause-writes : goal.returns-in_err-open_variant-clause-writes
-returns-in_err-open_variant-clause-writes g c =
+pub returns-in_err-open_variant : goal.returns-in_err-open_variant
+returns-in_err-open_variant g c =
     let p = err_from_is_err_and c.from_residual.result c.from_residual.ensures.1 in
-    rw (p.1, p.2) (part_or g.W.Sink _ ((rw c.len.ensures at c.in_err-open_variant.ensures.begins) _ _
-    (made_tuple_variant _ c.args.variant.now g.E.Elements.count _ (bytes_from c.args.variant.now (λ i. omega (arith, c.type_inv.variant i)))
-    (g.E.Elements.counted c.args.elements.now _))))
+    let small = bytes_from c.args.variant.now (λ i. omega (arith, c.type_inv.variant i)) in
+    let w = none_begun g.W.Sink g.E.Elements.takes_memory (λ s. g.E.Elements.parts_of c.args.elements.now s.human)
+    (g.E.Elements.pieces c.args.elements.now) (g.E.Elements.refusals c.args.elements.now) (g.E.Elements.are_values c.args.elements.now)
+    (made_tuple_variant _ c.args.variant.now g.E.Elements.count _ small (g.E.Elements.counted c.args.elements.now _)) (λ l. l)
+    (rw c.len.ensures at c.in_err-open_variant.ensures) in
+    rw (p.1, p.2) (record { writes = w.writes; keeps = w.keeps; marker = w.marker; error = w.error; value = w.value; long = λ le. w.refused (λ k. let lt = k.0 in omega (arith, le, lt)); long_count = λ le. w.refused (λ k. let lt = k.1 in omega (arith, le, lt)) })
 
-pub returns-clause-writes : goal.returns-clause-writes
-returns-clause-writes g c =
-    all_written g.W.Sink (λ s. g.E.Elements.takes_memory s || g.W.Sink.takes_memory) (λ s. g.E.Elements.parts_of c.args.elements.now s.human) _ _
-    c.write.result c.write.ensures.writes c.args.self.now _
-    ((rw c.len.ensures at c.in_ok-open_variant.ensures.begins) _ _
-    (made_tuple_variant _ c.args.variant.now g.E.Elements.count _ (bytes_from c.args.variant.now (λ i. omega (arith, c.type_inv.variant i)))
-    (g.E.Elements.counted c.args.elements.now _)))
-
-pub returns-clause-keeps : goal.returns-clause-keeps
-returns-clause-keeps g c = keeps_then g.W.Sink c.open_variant.ensures.keeps c.write.ensures.keeps
-
-pub returns-in_err-open_variant-clause-error : goal.returns-in_err-open_variant-clause-error
-returns-in_err-open_variant-clause-error g c =
-    let p = err_from_is_err_and c.from_residual.result c.from_residual.ensures.1 in
-    rw (p.1, p.2) (of_no_part _ (g.E.Elements.refusals c.args.elements.now) _ (rw c.len.ensures at c.in_err-open_variant.ensures.error))
-
-pub returns-clause-error : goal.returns-clause-error
-returns-clause-error g c = on_parts_weaker absurd (g.E.Elements.refusals c.args.elements.now) c.write.result c.write.ensures.error
-
-pub returns-in_err-open_variant-clause-marker : goal.returns-in_err-open_variant-clause-marker
-returns-in_err-open_variant-clause-marker g c =
-    let p = err_from_is_err_and c.from_residual.result c.from_residual.ensures.1 in
-    rw (p.1, p.2) (pieces_stop g.W.Sink (g.E.Elements.pieces c.args.elements.now (settings_of c.args.self.now))
-    (rw c.len.ensures at c.in_err-open_variant.ensures.order))
-
-pub returns-clause-marker : goal.returns-clause-marker
-returns-clause-marker g c =
-    pieces_then g.W.Sink c.write.result (rw c.len.ensures at c.in_ok-open_variant.ensures.order)
-    (pieces_as g.W.Sink (λ s. g.E.Elements.pieces c.args.elements.now s)
-    c.open_variant.ensures.keeps.settings c.write.ensures.marker)
+pub returns : goal.returns
+returns g c =
+    let small = bytes_from c.args.variant.now (λ i. omega (arith, c.type_inv.variant i)) in
+    let e = c.write.ensures in
+    let w = all_begun g.W.Sink g.E.Elements.takes_memory {M = AnyLong (length c.args.variant.now ∷ g.E.Elements.count ∷ [])} c.write.result (made_tuple_variant _ c.args.variant.now g.E.Elements.count _ small (g.E.Elements.counted c.args.elements.now _))
+    absurd (rw c.len.ensures at c.in_ok-open_variant.ensures)
+    (as_parts g.W.Sink (λ s. g.E.Elements.parts_of c.args.elements.now s.human)
+    (g.E.Elements.pieces c.args.elements.now) e.writes e.keeps e.marker e.error e.value) in
+    record { writes = w.writes; keeps = w.keeps; marker = w.marker; error = w.error; value = w.value; long = λ le. w.refused (λ k. let lt = k.0 in omega (arith, le, lt)); long_count = λ le. w.refused (λ k. let lt = k.1 in omega (arith, le, lt)) }

@@ -2,23 +2,10 @@ use Rattle.std.proofs.Common.{Some, refl, arith, rules, sym, ◌∙◌, ◌∷�
 use Rattle.std.proofs.lemmas.Result.{err_from_is_err_and}
 use Rattle.rmp_encode.specs.Trees.{byte_of}
 use Rattle.rmp_encode.proofs.Parts.{part_then, part_stops}
-use Rattle.rmp_encode.proofs.Going.{keeps_then}
-use Rattle.rmp_encode.proofs.TupleSteps.{
-  kept_none,
-  kept_no_more,
-  kept_some,
-  probe_more,
-  probe_takes,
-  spilled,
-  not_spilled,
-  tuple_goes,
-  list_state,
-  probe_state,
-  in_probe,
-  element_alone,
-  element_spilled,
-}
-use Rattle.rmp_encode.proofs.Refusals.{of_cause, of_sink, on_part}
+use Rattle.rmp_encode.proofs.Going.{keeps_then, on_ok}
+use Rattle.rmp_encode.proofs.TupleSteps.{kept_none, kept_no_more, kept_some, probe_more, probe_takes, spilled, not_spilled, tuple_goes, list_state}
+use Rattle.rmp_encode.proofs.TupleSteps.{probe_state, in_probe, element_alone, element_spilled}
+use Rattle.rmp_encode.proofs.Refusals.{of_cause, on_part}
 use Rattle.rmp_encode.proofs.Markers.{one_piece, pieces_stop, pieces_then, value_piece}
 use Rattle.rmp_encode.specs.Markers.{item, items_of, value_of}
 use Rattle.rmp_encode.specs.Ser.{settings_of}
@@ -99,13 +86,14 @@ pub returns-in_default-clause-marker : goal.returns-in_default-clause-marker
 returns-in_default-clause-marker g c =
     element_alone g.W.Sink (value_of (settings_of c.args.self.now.se.now) (g.T.Serialize.data_of c.args.value.now (settings_of c.args.self.now.se.now).human)
     (g.T.Serialize.marks c.args.value.now (settings_of c.args.self.now.se.now))) _ (kept_none _ _ c.in_default.is) c.serialize.result
-    c.serialize.ensures.writes c.serialize.ensures.marker
+    c.serialize.ensures.writes c.serialize.ensures.marker (on_ok c.serialize.result tt)
 
 pub returns-then-not-self-clause-marker : goal.returns-then-not-self-clause-marker
 returns-then-not-self-clause-marker g c =
     element_alone g.W.Sink (value_of (settings_of c.args.self.now.se.now) (g.T.Serialize.data_of c.args.value.now (settings_of c.args.self.now.se.now).human)
     (g.T.Serialize.marks c.args.value.now (settings_of c.args.self.now.se.now))) _ (kept_no_more c.in-Some.kept c.in-Some.is c.if-not-self.true)
     c.serialize-then-not-self.result c.serialize-then-not-self.ensures.writes c.serialize-then-not-self.ensures.marker
+    (on_ok c.serialize-then-not-self.result tt)
 
 pub returns-in-Err-clause-marker : goal.returns-in-Err-clause-marker
 returns-in-Err-clause-marker g c =
@@ -119,7 +107,7 @@ returns-in_err-put_head-clause-marker g c =
     (g.T.Serialize.marks c.args.value.now (settings_of c.args.self.now.se.now))) c.in-Some.kept _ (kept_some c.in-Some.kept c.in-Some.is c.if-not-self.false) (Err _)
     (pieces_stop g.W.Sink (items_of (map number_head c.in-Some.kept.items) ++ (value_of (settings_of c.args.self.now.se.now) (g.T.Serialize.data_of c.args.value.now (settings_of c.args.self.now.se.now).human)
     (g.T.Serialize.marks c.args.value.now (settings_of c.args.self.now.se.now))) ∷ [])
-    (one_piece g.W.Sink (item (array_head c.args.self.now.len)) (Err _) c.in_err-put_head.ensures.writes c.in_err-put_head.ensures.marker)))
+    (one_piece g.W.Sink (item (array_head c.args.self.now.len)) (Err _) c.in_err-put_head.ensures.writes c.in_err-put_head.ensures.marker tt)))
 
 pub returns-in_err-put_numbers-clause-marker : goal.returns-in_err-put_numbers-clause-marker
 unfolding head_at
@@ -127,7 +115,7 @@ returns-in_err-put_numbers-clause-marker g c =
     let p = err_from_is_err_and c.from_residual-in_err-put_numbers.result c.from_residual-in_err-put_numbers.ensures.1 in
     rw (p.1, p.2) (element_spilled g.W.Sink (value_of (settings_of c.args.self.now.se.now) (g.T.Serialize.data_of c.args.value.now (settings_of c.args.self.now.se.now).human)
     (g.T.Serialize.marks c.args.value.now (settings_of c.args.self.now.se.now))) c.in-Some.kept _ (kept_some c.in-Some.kept c.in-Some.is c.if-not-self.false) (Err _)
-    (pieces_then g.W.Sink (Err _) (one_piece g.W.Sink (item (array_head c.args.self.now.len)) (Ok _) c.in_ok-put_head.ensures.writes tt)
+    (pieces_then g.W.Sink (Err _) (one_piece g.W.Sink (item (array_head c.args.self.now.len)) (Ok _) c.in_ok-put_head.ensures.writes tt tt)
     (pieces_stop g.W.Sink ((value_of (settings_of c.args.self.now.se.now) (g.T.Serialize.data_of c.args.value.now (settings_of c.args.self.now.se.now).human)
     (g.T.Serialize.marks c.args.value.now (settings_of c.args.self.now.se.now))) ∷ []) (rw c.as_slice.ensures.value at c.in_err-put_numbers.ensures.order))))
 
@@ -136,7 +124,7 @@ unfolding head_at
 returns-clause-marker g c =
     element_spilled g.W.Sink (value_of (settings_of c.args.self.now.se.now) (g.T.Serialize.data_of c.args.value.now (settings_of c.args.self.now.se.now).human)
     (g.T.Serialize.marks c.args.value.now (settings_of c.args.self.now.se.now))) c.in-Some.kept _ (kept_some c.in-Some.kept c.in-Some.is c.if-not-self.false) c.serialize-2.result
-    (pieces_then g.W.Sink c.serialize-2.result (one_piece g.W.Sink (item (array_head c.args.self.now.len)) (Ok _) c.in_ok-put_head.ensures.writes tt)
+    (pieces_then g.W.Sink c.serialize-2.result (one_piece g.W.Sink (item (array_head c.args.self.now.len)) (Ok _) c.in_ok-put_head.ensures.writes tt tt)
     (pieces_then g.W.Sink c.serialize-2.result (rw c.as_slice.ensures.value at c.in_ok-put_numbers.ensures.order)
     (value_piece g.W.Sink (λ s. g.T.Serialize.data_of c.args.value.now s.human) (g.T.Serialize.marks c.args.value.now) c.put_numbers.new.self
     c.serialize-2.result (keeps_then g.W.Sink c.put_head.ensures.keeps c.put_numbers.ensures.keeps).settings c.serialize-2.ensures.writes

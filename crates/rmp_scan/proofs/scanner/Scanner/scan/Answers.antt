@@ -13,6 +13,9 @@ returns-in-Whole-clause-law c = λ before a.
     whole_answer before c.args.piece.now old a old.limit c.saturating_sub-room.result c.saturating_sub-room.ensures c.in-Whole.used _ old.unfinished
     c.in-Whole.ensures a.ready refl (ap (λ z. z.next) c.new-self.ensures, ap (λ z. z.messages) c.new-self.ensures)
 
+pub returns-in-Whole-clause-after : goal.returns-in-Whole-clause-after
+returns-in-Whole-clause-after c = λ before a. (returns-in-Whole-clause-law c before a).new_again
+
 pub returns-in-Whole-clause-whole : goal.returns-in-Whole-clause-whole
 returns-in-Whole-clause-whole c = λ before a used.
     let s = returns-in-Whole-clause-law c before a in (
@@ -28,6 +31,11 @@ pub returns-in-More-clause-law : goal.returns-in-More-clause-law
 returns-in-More-clause-law c = λ before a.
     let old = c.args.self.now in
     more_answer before c.args.piece.now old a old.limit c.saturating_sub-room.result c.saturating_sub-room.ensures c.in-More.want _ c.in-More.ensures refl a.ready refl
+
+pub returns-in-More-clause-after : goal.returns-in-More-clause-after
+returns-in-More-clause-after c = λ before a.
+    let s = returns-in-More-clause-law c before a in
+    (s.after, s.begins)
 
 pub returns-in-More-clause-whole : goal.returns-in-More-clause-whole
 returns-in-More-clause-whole c = λ before a used.

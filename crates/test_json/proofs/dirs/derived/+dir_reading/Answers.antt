@@ -1,11 +1,12 @@
-use Rattle.std.proofs.Common.{◌≡◌, ◌∙◌, refl, sym, ap, subst, List, None, Some, String, rules, arith, false, length}
+use Rattle.std.proofs.Common.{◌≡◌, ◌∙◌, refl, sym, ap, subst, ℕ, List, None, Some, rules, arith, false, length}
 use Rattle.std.specs.Int.{w64}
-use Rattle.std.specs.String.{string_cmp, string_cmp_total}
+use Rattle.std.specs.Ordering.{nat_cmp}
+use Rattle.std.proofs.lemmas.Cmp.{nat_cmp_total}
 use Rattle.std.specs.declared.collections.BTreeMap.{BTreeMap}
-use Rattle.std.specs.Prelude.{◌<◌, string_bytes}
+use Rattle.std.specs.Prelude.{◌<◌}
 use Rattle.std.specs.declared.alloc.Global.{Global}
 use Rattle.rmp_decode.specs.Maps.{ReadsPairs, Collects, IsMapOpen}
-use Rattle.rmp_decode.specs.Read.{IsRaw}
+use Rattle.rmp_decode.specs.Read.{IsChar}
 use Rattle.test_json.specs.declared.dirs.Dir.{Dir, out-Dir}
 use Rattle.test_json.specs.declared.dirs.Dir.TheViews.{out-roll-Dir}
 use Rattle.test_json.specs.DirLevels.{IsDir, DirFields, DirRead, DirFrom0, dir_names, dir_made, dir_read}
@@ -227,22 +228,21 @@ read_dir-returns-in-Err-end g t c =
           )) (e.1 ∙ ap (λ a. a.de.now) last)));
     }
 
-pub read_dir_string_map-returns-in_err-pairs : goal.read_dir_string_map-returns-in_err-pairs
-read_dir_string_map-returns-in_err-pairs g t c =
+pub read_dir_char_map-returns-in_err-pairs : goal.read_dir_char_map-returns-in_err-pairs
+read_dir_char_map-returns-in_err-pairs g t c =
     let p = err_from_is_err_and c.from_residual.result c.from_residual.ensures.1 in
     rw (p.1, p.2) (record {
-      law = map_unopened g.R.Source (λ (v : BTreeMap (String Global) Dir Global) ps. (ns : List (String Global × Dir))
-          × ReadsPairs (λ j (q : String Global). IsRaw j (string_bytes q)) IsDir ps ns × Collects string_cmp ns v.entries) _ _ _
-          (rw c.in_err-pairs.was at c.deserialize_map.follows.holds-at-none);
+      law = map_unopened g.R.Source (λ (v : BTreeMap (ℕ) Dir Global) ps. (ns : List (ℕ × Dir)) × ReadsPairs (λ j (q : ℕ). IsChar j q) IsDir ps ns
+          × Collects nat_cmp ns v.entries) _ _ _ (rw c.in_err-pairs.was at c.deserialize_map.follows.holds-at-none);
     })
 
-pub read_dir_string_map-loop-entries-init : goal.read_dir_string_map-loop-entries-init
-read_dir_string_map-loop-entries-init g t c =
+pub read_dir_char_map-loop-entries-init : goal.read_dir_char_map-loop-entries-init
+read_dir_char_map-loop-entries-init g t c =
     let o = c.in_ok-pairs.ensures.opened in
-    gathers_start g.R.Source string_cmp_total (λ j (q : String Global). IsRaw j (string_bytes q)) IsDir _ _ o.at_key o.opened c.new-entries.ensures.empty
+    gathers_start g.R.Source nat_cmp_total (λ j (q : ℕ). IsChar j q) IsDir _ _ o.at_key o.opened c.new-entries.ensures.empty
 
-pub read_dir_string_map-returns-in_err-key : goal.read_dir_string_map-returns-in_err-key
-read_dir_string_map-returns-in_err-key g t c =
+pub read_dir_char_map-returns-in_err-key : goal.read_dir_char_map-returns-in_err-key
+read_dir_char_map-returns-in_err-key g t c =
     let p = err_from_is_err_and c.from_residual-in_err-key.result c.from_residual-in_err-key.ensures.1 in
     rw (p.1, p.2) (record {
       law = lawful_at g.R.Source _ _ _ c.next_key_with.new.self.de.now _
@@ -251,17 +251,16 @@ read_dir_string_map-returns-in_err-key g t c =
           let r = c.loop-entries.invariant in
           let e = c.in_err-key.ensures in
           let some = some_if_err c.loop-entries.pairs.left _ (e.none r.read.run.still.sound) in
-          let f = key_refused g.R.Source (λ j (q : String Global). IsRaw j (string_bytes q)) c.loop-entries.pairs c.next_key_with.new.self (λ p q r h. h) _
+          let f = key_refused g.R.Source (λ j (q : ℕ). IsChar j q) c.loop-entries.pairs c.next_key_with.new.self (λ p q r h. h) _
           (e.part r.read.run.still.sound some) in
-          map_take g.R.Source (λ (v : BTreeMap (String Global) Dir Global) ps. (ns : List (String Global × Dir))
-          × ReadsPairs (λ j (q : String Global). IsRaw j (string_bytes q)) IsDir ps ns × Collects string_cmp ns v.entries) _ c.in_ok-pairs.pairs
-          c.loop-entries.pairs c.in_ok-pairs.ensures.opened _ (flat r.read.trees) r.read.run (λ j (q : String Global). IsRaw j (string_bytes q))
-          c.next_key_with.new.self _ (to_come_some c.loop-entries.pairs some) f refl
+          map_take g.R.Source (λ (v : BTreeMap (ℕ) Dir Global) ps. (ns : List (ℕ × Dir)) × ReadsPairs (λ j (q : ℕ). IsChar j q) IsDir ps ns
+          × Collects nat_cmp ns v.entries) _ c.in_ok-pairs.pairs c.loop-entries.pairs c.in_ok-pairs.ensures.opened _ (flat r.read.trees) r.read.run
+          (λ j (q : ℕ). IsChar j q) c.next_key_with.new.self _ (to_come_some c.loop-entries.pairs some) f refl
           (λ m ks v ps i h. key_next _ _ r.read.trees ps m ks h.0 i h.1));
     })
 
-pub read_dir_string_map-returns-in_err-value : goal.read_dir_string_map-returns-in_err-value
-read_dir_string_map-returns-in_err-value g t c =
+pub read_dir_char_map-returns-in_err-value : goal.read_dir_char_map-returns-in_err-value
+read_dir_char_map-returns-in_err-value g t c =
     let p = err_from_is_err_and c.from_residual-in_err-value.result c.from_residual-in_err-value.ensures.1 in
     rw (p.1, p.2) (record {
       law = lawful_at g.R.Source _ _ _ c.next_value_with.new.self.de.now _
@@ -271,19 +270,18 @@ read_dir_string_map-returns-in_err-value g t c =
           let e = c.in_ok-key.ensures in
           let is = c.in-Some.is in
           let some = some_if c.loop-entries.pairs.left c.in-Some.key _ is (e.none r.read.run.still.sound) in
-          let k = key_got g.R.Source (λ j (q : String Global). IsRaw j (string_bytes q)) c.loop-entries.pairs c.next_key_with.new.self (λ p q r h. h)
-          c.in-Some.key (rw is at (e.part r.read.run.still.sound some)) e.still in
+          let k = key_got g.R.Source (λ j (q : ℕ). IsChar j q) c.loop-entries.pairs c.next_key_with.new.self (λ p q r h. h) c.in-Some.key
+          (rw is at (e.part r.read.run.still.sound some)) e.still in
           let f = value_refused g.R.Source IsDir c.next_key_with.new.self c.next_value_with.new.self (λ p q r h. h) _ (c.in_err-value.ensures.part k.still.sound) in
-          map_take g.R.Source (λ (v : BTreeMap (String Global) Dir Global) ps. (ns : List (String Global × Dir))
-          × ReadsPairs (λ j (q : String Global). IsRaw j (string_bytes q)) IsDir ps ns × Collects string_cmp ns v.entries) _ c.in_ok-pairs.pairs
-          c.next_key_with.new.self c.in_ok-pairs.ensures.opened _ (push (flat r.read.trees) k.part.tree)
-          (map_key g.R.Source (λ j (q : String Global). IsRaw j (string_bytes q)) c.in_ok-pairs.pairs c.loop-entries.pairs c.next_key_with.new.self
-          (flat r.read.trees) c.in-Some.key r.read.run r.read.at_key k e.same_reference) IsDir c.next_value_with.new.self _
+          map_take g.R.Source (λ (v : BTreeMap (ℕ) Dir Global) ps. (ns : List (ℕ × Dir)) × ReadsPairs (λ j (q : ℕ). IsChar j q) IsDir ps ns
+          × Collects nat_cmp ns v.entries) _ c.in_ok-pairs.pairs c.next_key_with.new.self c.in_ok-pairs.ensures.opened _
+          (push (flat r.read.trees) k.part.tree) (map_key g.R.Source (λ j (q : ℕ). IsChar j q) c.in_ok-pairs.pairs c.loop-entries.pairs
+          c.next_key_with.new.self (flat r.read.trees) c.in-Some.key r.read.run r.read.at_key k e.same_reference) IsDir c.next_value_with.new.self _
           (owing c.next_key_with.new.self k.owes) f refl (λ m ks v ps i h. value_next _ _ r.read.trees ps k.part.tree m ks h.0 i h.1));
     })
 
-pub read_dir_string_map-returns-in_err-insert : goal.read_dir_string_map-returns-in_err-insert
-read_dir_string_map-returns-in_err-insert g t c =
+pub read_dir_char_map-returns-in_err-insert : goal.read_dir_char_map-returns-in_err-insert
+read_dir_char_map-returns-in_err-insert g t c =
     let p = err_from_is_err_and c.from_residual-in_err-insert.result c.from_residual-in_err-insert.ensures.1 in
     rw (p.1, p.2) (record {
       law = lawful_at g.R.Source _ _ _ c.next_value_with.new.self.de.now _
@@ -293,65 +291,61 @@ read_dir_string_map-returns-in_err-insert g t c =
           let e = c.in_ok-key.ensures in
           let is = c.in-Some.is in
           let some = some_if c.loop-entries.pairs.left c.in-Some.key _ is (e.none r.read.run.still.sound) in
-          let k = key_got g.R.Source (λ j (q : String Global). IsRaw j (string_bytes q)) c.loop-entries.pairs c.next_key_with.new.self (λ p q r h. h)
-          c.in-Some.key (rw is at (e.part r.read.run.still.sound some)) e.still in
+          let k = key_got g.R.Source (λ j (q : ℕ). IsChar j q) c.loop-entries.pairs c.next_key_with.new.self (λ p q r h. h) c.in-Some.key
+          (rw is at (e.part r.read.run.still.sound some)) e.still in
           let u = c.in_ok-value.ensures in
           let v = value_got g.R.Source IsDir c.next_key_with.new.self c.next_value_with.new.self (λ p q r h. h) c.in_ok-value.value (u.part k.still.sound) u.still in
-          let s = entries_step g.R.Source (λ j (q : String Global). IsRaw j (string_bytes q)) IsDir c.in_ok-pairs.pairs c.loop-entries.pairs
-          c.next_key_with.new.self c.next_value_with.new.self r.pairs c.in-Some.key
+          let s = entries_step g.R.Source (λ j (q : ℕ). IsChar j q) IsDir c.in_ok-pairs.pairs c.loop-entries.pairs c.next_key_with.new.self
+          c.next_value_with.new.self r.pairs c.in-Some.key
           c.in_ok-value.value r.read k e.same_reference v u.same_reference in
-          map_unkept g.R.Source (λ (v : BTreeMap (String Global) Dir Global) ps. (ns : List (String Global × Dir))
-          × ReadsPairs (λ j (q : String Global). IsRaw j (string_bytes q)) IsDir ps ns × Collects string_cmp ns v.entries) _ c.in_ok-pairs.pairs
-          c.next_value_with.new.self c.in_ok-pairs.ensures.opened _ (flat s.trees) s.run refl);
+          map_unkept g.R.Source (λ (v : BTreeMap (ℕ) Dir Global) ps. (ns : List (ℕ × Dir)) × ReadsPairs (λ j (q : ℕ). IsChar j q) IsDir ps ns
+          × Collects nat_cmp ns v.entries) _ c.in_ok-pairs.pairs c.next_value_with.new.self c.in_ok-pairs.ensures.opened _ (flat s.trees) s.run refl);
     })
 
-pub read_dir_string_map-loop-entries-preserved : goal.read_dir_string_map-loop-entries-preserved
-read_dir_string_map-loop-entries-preserved g t c =
+pub read_dir_char_map-loop-entries-preserved : goal.read_dir_char_map-loop-entries-preserved
+read_dir_char_map-loop-entries-preserved g t c =
     let r = c.loop-entries.invariant in
     let e = c.in_ok-key.ensures in
     let is = c.in-Some.is in
     let some = some_if c.loop-entries.pairs.left c.in-Some.key _ is (e.none r.read.run.still.sound) in
-    let k = key_got g.R.Source (λ j (q : String Global). IsRaw j (string_bytes q)) c.loop-entries.pairs c.next_key_with.new.self (λ p q r h. h)
-    c.in-Some.key (rw is at (e.part r.read.run.still.sound some)) e.still in
+    let k = key_got g.R.Source (λ j (q : ℕ). IsChar j q) c.loop-entries.pairs c.next_key_with.new.self (λ p q r h. h) c.in-Some.key
+    (rw is at (e.part r.read.run.still.sound some)) e.still in
     let u = c.in_ok-value.ensures in
     let v = value_got g.R.Source IsDir c.next_key_with.new.self c.next_value_with.new.self (λ p q r h. h) c.in_ok-value.value (u.part k.still.sound) u.still in
-    gathers_step g.R.Source string_cmp_total (λ j (q : String Global). IsRaw j (string_bytes q)) IsDir c.in_ok-pairs.pairs c.loop-entries.pairs
-    c.next_key_with.new.self c.next_value_with.new.self _ _ c.in-Some.key
+    gathers_step g.R.Source nat_cmp_total (λ j (q : ℕ). IsChar j q) IsDir c.in_ok-pairs.pairs c.loop-entries.pairs c.next_key_with.new.self
+    c.next_value_with.new.self _ _ c.in-Some.key
     c.in_ok-value.value r k e.same_reference v u.same_reference c.in_ok-insert.ensures.entries c.insert.ensures.ordered
     c.in_ok-insert.ensures.updates.0
 
-pub read_dir_string_map-end-requires : goal.read_dir_string_map-end-requires
-read_dir_string_map-end-requires g t c =
+pub read_dir_char_map-end-requires : goal.read_dir_char_map-end-requires
+read_dir_char_map-end-requires g t c =
     let r = c.loop-entries.invariant in
     let e = c.in_ok-key.ensures in
-    let z = none_left c.loop-entries.pairs.left (λ l. no_key g.R.Source (λ j (q : String Global). IsRaw j (string_bytes q)) c.loop-entries.pairs
-    c.next_key_with.new.self (λ p q r h. h)
+    let z = none_left c.loop-entries.pairs.left (λ l. no_key g.R.Source (λ j (q : ℕ). IsChar j q) c.loop-entries.pairs c.next_key_with.new.self (λ p q r h. h)
     (rw c.in_default.is at (e.part r.read.run.still.sound l))) in
     let n = (e.none r.read.run.still.sound z).1 in
     λ _. ap (λ a. a.owes) n ∙ r.read.at_key
 
-pub read_dir_string_map-returns : goal.read_dir_string_map-returns
-read_dir_string_map-returns g t c =
+pub read_dir_char_map-returns : goal.read_dir_char_map-returns
+read_dir_char_map-returns g t c =
     let r = c.loop-entries.invariant in
     let e = c.in_ok-key.ensures in
-    let z = none_left c.loop-entries.pairs.left (λ l. no_key g.R.Source (λ j (q : String Global). IsRaw j (string_bytes q)) c.loop-entries.pairs
-    c.next_key_with.new.self (λ p q r h. h)
+    let z = none_left c.loop-entries.pairs.left (λ l. no_key g.R.Source (λ j (q : ℕ). IsChar j q) c.loop-entries.pairs c.next_key_with.new.self (λ p q r h. h)
     (rw c.in_default.is at (e.part r.read.run.still.sound l))) in
     let n = (e.none r.read.run.still.sound z).1 in
     let d = (c.in_ok-end.ensures.ok (subst IsMapOpen (sym n) r.read.run.still)).1 in
     record {
-      law = map_done g.R.Source (λ (v : BTreeMap (String Global) Dir Global) ps. (ns : List (String Global × Dir))
-          × ReadsPairs (λ j (q : String Global). IsRaw j (string_bytes q)) IsDir ps ns × Collects string_cmp ns v.entries) _ c.in_ok-pairs.pairs
-          c.loop-entries.pairs c.in_ok-pairs.ensures.opened _ r.read.trees r.read.run _ (r.pairs, r.read.reads, r.gathered) z r.read.at_key
+      law = map_done g.R.Source (λ (v : BTreeMap (ℕ) Dir Global) ps. (ns : List (ℕ × Dir)) × ReadsPairs (λ j (q : ℕ). IsChar j q) IsDir ps ns
+          × Collects nat_cmp ns v.entries) _ c.in_ok-pairs.pairs c.loop-entries.pairs c.in_ok-pairs.ensures.opened _ r.read.trees r.read.run _
+          (r.pairs, r.read.reads, r.gathered) z r.read.at_key
           (via c.end.new.self.0 (search rules) (d ∙ ap (λ a. record a.de.now { failed = false }) n));
     }
 
-pub read_dir_string_map-returns-in_err-end : goal.read_dir_string_map-returns-in_err-end
-read_dir_string_map-returns-in_err-end g t c =
+pub read_dir_char_map-returns-in_err-end : goal.read_dir_char_map-returns-in_err-end
+read_dir_char_map-returns-in_err-end g t c =
     let r = c.loop-entries.invariant in
     let e = c.in_ok-key.ensures in
-    let z = none_left c.loop-entries.pairs.left (λ l. no_key g.R.Source (λ j (q : String Global). IsRaw j (string_bytes q)) c.loop-entries.pairs
-    c.next_key_with.new.self (λ p q r h. h)
+    let z = none_left c.loop-entries.pairs.left (λ l. no_key g.R.Source (λ j (q : ℕ). IsChar j q) c.loop-entries.pairs c.next_key_with.new.self (λ p q r h. h)
     (rw c.in_default.is at (e.part r.read.run.still.sound l))) in
     let n = (e.none r.read.run.still.sound z).1 in
     let d = (c.in_err-end.ensures.err (subst IsMapOpen (sym n) r.read.run.still)).0 in

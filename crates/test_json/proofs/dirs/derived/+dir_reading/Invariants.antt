@@ -1,8 +1,6 @@
-use Rattle.std.proofs.Common.{◌+◌, ◌*◌, String}
-use Rattle.std.specs.String.{string_cmp}
-use Rattle.std.specs.Prelude.{string_bytes}
-use Rattle.std.specs.declared.alloc.Global.{Global}
-use Rattle.rmp_decode.specs.Read.{IsRaw}
+use Rattle.std.proofs.Common.{◌+◌, ◌*◌, ℕ}
+use Rattle.std.specs.Ordering.{nat_cmp}
+use Rattle.rmp_decode.specs.Read.{IsChar}
 use Rattle.rmp_decode.proofs.Maps.{Gathers}
 use Rattle.rmp_decode.proofs.StructRuns.{StructRun}
 use Rattle.test_json.specs.DirLevels.{IsDir, dir_names}
@@ -17,11 +15,11 @@ decreases-read_dir g l = 6 * steps_at l.de.now
 abbrev pub decreases-read_dir-next_value_with : goal.decreases-read_dir-next_value_with
 decreases-read_dir-next_value_with g l = 6 * steps_at l.de.now + 5
 
-abbrev pub decreases-read_dir_string_map : goal.decreases-read_dir_string_map
-decreases-read_dir_string_map g l = 6 * steps_at l.de.now + 2
+abbrev pub decreases-read_dir_char_map : goal.decreases-read_dir_char_map
+decreases-read_dir_char_map g l = 6 * steps_at l.de.now + 2
 
-abbrev pub decreases-read_dir_string_map-next_value_with : goal.decreases-read_dir_string_map-next_value_with
-decreases-read_dir_string_map-next_value_with g l = 6 * steps_at l.de.now + 1
+abbrev pub decreases-read_dir_char_map-next_value_with : goal.decreases-read_dir_char_map-next_value_with
+decreases-read_dir_char_map-next_value_with g l = 6 * steps_at l.de.now + 1
 
 abbrev pub invariant-read_dir-loop-fields : goal.invariant-read_dir-loop-fields
 invariant-read_dir-loop-fields g l = StructRun g.R.Source dir_names DirHeld0 l.initial.fields l.fields (l.slot0, (l.slot1, tt))
@@ -29,9 +27,8 @@ invariant-read_dir-loop-fields g l = StructRun g.R.Source dir_names DirHeld0 l.i
 abbrev pub decreases-read_dir-loop-fields : goal.decreases-read_dir-loop-fields
 decreases-read_dir-loop-fields g l = l.fields.left
 
-abbrev pub invariant-read_dir_string_map-loop-entries : goal.invariant-read_dir_string_map-loop-entries
-invariant-read_dir_string_map-loop-entries g l = Gathers g.R.Source string_cmp (λ j (q : String Global). IsRaw j (string_bytes q)) IsDir l.initial.pairs
-    l.pairs l.entries.entries
+abbrev pub invariant-read_dir_char_map-loop-entries : goal.invariant-read_dir_char_map-loop-entries
+invariant-read_dir_char_map-loop-entries g l = Gathers g.R.Source nat_cmp (λ j (q : ℕ). IsChar j q) IsDir l.initial.pairs l.pairs l.entries.entries
 
-abbrev pub decreases-read_dir_string_map-loop-entries : goal.decreases-read_dir_string_map-loop-entries
-decreases-read_dir_string_map-loop-entries g l = l.pairs.left
+abbrev pub decreases-read_dir_char_map-loop-entries : goal.decreases-read_dir_char_map-loop-entries
+decreases-read_dir_char_map-loop-entries g l = l.pairs.left

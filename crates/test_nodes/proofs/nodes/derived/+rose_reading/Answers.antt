@@ -23,6 +23,7 @@ use Rattle.rmp_recursive.proofs.Parts.{
   row_unkept,
   part_steps,
   steps_at,
+  lawful_at,
   lent_law,
   item_taken,
   item_refused,
@@ -219,17 +220,20 @@ read_rose_list-returns g t c =
 pub read_rose_list-returns-in_err-push : goal.read_rose_list-returns-in_err-push
 read_rose_list-returns-in_err-push g t c =
     let p = err_from_is_err_and c.from_residual-in_err-push.result c.from_residual-in_err-push.ensures.1 in
-    let r = c.loop-items.invariant in
-    let e = c.in_ok-item.ensures in
-    let is = c.in-Some.is in
-    let some = some_if c.loop-items.seq.left c.in-Some.item _ is (e.none r.run.still.sound) in
-    let k = item_taken g.R.Source IsRose c.loop-items.seq c.next_element_with.new.self r.run.still e.list (λ p q r h. h) c.in-Some.item
-    (rw is at (e.part r.run.still.sound some)) e.still in
-    let v = values_step g.R.Source IsRose c.in_ok-seq.seq c.loop-items.seq c.next_element_with.new.self c.loop-items.items.items c.in-Some.item r k
-    e.same_reference in
     rw (p.1, p.2) (record {
-      law = lawful_err _ (Row IsRose) _ _ _ _ (vec_row IsRose)
-          (row_unkept g.R.Source IsRose _ c.in_ok-seq.seq c.next_element_with.new.self _ c.in_ok-seq.ensures.opened v _ (search rules));
+      law = lawful_at g.R.Source _ _ _ c.next_element_with.new.self.de.now _
+          (let same = sym c.in_ok-seq.ensures.same_reference ∙ sym c.loop-items.invariant.run.same_reference ∙ sym c.in_ok-item.ensures.same_reference
+          in search rules) (
+          let r = c.loop-items.invariant in
+          let e = c.in_ok-item.ensures in
+          let is = c.in-Some.is in
+          let some = some_if c.loop-items.seq.left c.in-Some.item _ is (e.none r.run.still.sound) in
+          let k = item_taken g.R.Source IsRose c.loop-items.seq c.next_element_with.new.self r.run.still e.list (λ p q r h. h) c.in-Some.item
+          (rw is at (e.part r.run.still.sound some)) e.still in
+          let v = values_step g.R.Source IsRose c.in_ok-seq.seq c.loop-items.seq c.next_element_with.new.self c.loop-items.items.items c.in-Some.item r k
+          e.same_reference in
+          lawful_err _ (Row IsRose) _ _ _ _ (vec_row IsRose)
+          (row_unkept g.R.Source IsRose _ c.in_ok-seq.seq c.next_element_with.new.self _ c.in_ok-seq.ensures.opened v _ refl));
     })
 
 pub read_rose_list-returns-in_err-end : goal.read_rose_list-returns-in_err-end

@@ -1,4 +1,4 @@
-use Rattle.rmp_decode.proofs.Laws.{lawful_ok, lawful_err}
+use Rattle.rmp_serde.proofs.Decoding.Laws.{lawful_ok, lawful_err}
 use Rattle.std.proofs.Common.{rules}
 use Rattle.std.proofs.lemmas.Int.{to_z-of_z}
 use Rattle.std.specs.Int.{w16}

@@ -1,4 +1,4 @@
-use Rattle.rmp_decode.proofs.Laws.{lawful_ok, lawful_err}
+use Rattle.rmp_serde.proofs.Decoding.Laws.{lawful_ok, lawful_err}
 use Rattle.recipes.proofs.times.derived.EventDeserialize.deserialize.Goals as goal
 
 pub returns-in-Ok-clause-law : goal.returns-in-Ok-clause-law

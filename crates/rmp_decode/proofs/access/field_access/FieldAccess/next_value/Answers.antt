@@ -1,5 +1,4 @@
-use Rattle.std.proofs.Common.{refl, subst, max}
-use Rattle.rmp_decode.specs.Parts.{TakesPart, FailsPart}
+use Rattle.std.proofs.Common.{refl}
 use Rattle.rmp_decode.proofs.FieldAccesses.{value_taken, value_fails, value_ended}
 use Rattle.rmp_decode.proofs.Nexts.{clash, not_memory}
 use Rattle.rmp_decode.proofs.access.field_access.FieldAccess.next_value.Goals as goal
@@ -18,32 +17,13 @@ returns-then-not-self g c = record {
 }
 
 pub returns-in-Err-clause-err : goal.returns-in-Err-clause-err
-returns-in-Err-clause-err g c = λ o.
-    let k = c.in-Err.ensures in
-    value_ended g.R.Source _ c.args.self.now c.offer.new.self o (c.requires o.sound) k.bytes k.stays k.failed c.in-Err.e k.err
+returns-in-Err-clause-err g c = λ o. rw c.data_fault.ensures (value_ended g.R.Source _ c.args.self.now _ o (c.requires o.sound) _ c.in-Err.ensures)
 
 pub returns-in-Ok-part-clause-ok : goal.returns-in-Ok-part-clause-ok
-returns-in-Ok-part-clause-ok g c = λ o.
-    let old = c.args.self.now in
-    let k = c.in-Ok.ensures in
-    let t = subst (λ z. TakesPart g.R.Source (g.T.Deserialize.reads (g.C.SerializerConfig.human z) g.R.ReadSlice.lends) (max 1 old.inner)
-    c.offer.new.self.de.now c.part.new.self c.in-Ok-part.value) k.stays.config
-    (subst (λ z. TakesPart g.R.Source (g.T.Deserialize.reads (g.C.SerializerConfig.human c.offer.new.self.de.now.config) g.R.ReadSlice.lends) (max 1 z)
-    c.offer.new.self.de.now c.part.new.self c.in-Ok-part.value) k.same.inner c.in-Ok-part.ensures.ok) in
-    value_taken g.R.Source (g.T.Deserialize.reads (g.C.SerializerConfig.human old.de.now.config) g.R.ReadSlice.lends) old c.offer.new.self _ o
-    (c.requires o.sound) k.same k.ok c.in-Ok-part.value k.met k.left
-    (record { is_map = refl; bytes = refl; names = refl; count = refl; inner = refl }) refl refl refl refl t
+returns-in-Ok-part-clause-ok g c = λ o. value_taken g.R.Source _ c.args.self.now o (c.requires o.sound) _ c.in-Ok.ensures.ok _ _ c.in-Ok-part.ensures
 
 pub returns-in-Err-part-clause-err : goal.returns-in-Err-part-clause-err
-returns-in-Err-part-clause-err g c = λ o.
-    let old = c.args.self.now in
-    let k = c.in-Ok.ensures in
-    let f = subst (λ z. FailsPart g.R.Source (g.T.Deserialize.reads (g.C.SerializerConfig.human z) g.R.ReadSlice.lends) (max 1 old.inner)
-    c.offer.new.self.de.now c.part.new.self c.in-Err-part.e) k.stays.config
-    (subst (λ z. FailsPart g.R.Source (g.T.Deserialize.reads (g.C.SerializerConfig.human c.offer.new.self.de.now.config) g.R.ReadSlice.lends) (max 1 z)
-    c.offer.new.self.de.now c.part.new.self c.in-Err-part.e) k.same.inner c.in-Err-part.ensures.err) in
-    value_fails g.R.Source (g.T.Deserialize.reads (g.C.SerializerConfig.human old.de.now.config) g.R.ReadSlice.lends) old c.offer.new.self _ o
-    (c.requires o.sound) k.same k.ok c.in-Err-part.e f
+returns-in-Err-part-clause-err g c = λ o. value_fails g.R.Source _ c.args.self.now o (c.requires o.sound) _ c.in-Ok.ensures.ok _ _ c.in-Err-part.ensures.fails
 
 pub returns-in-Err-clause-before : goal.returns-in-Err-clause-before
 returns-in-Err-clause-before g c = λ h. clash c.args.self.now.sound c.if-not-self.false h

@@ -1,5 +1,4 @@
-use Rattle.std.proofs.Common.{ap, refl, rules, subst}
-use Rattle.rmp_decode.specs.With.{PartGiven, part_reader}
+use Rattle.std.proofs.Common.{refl, rules}
 use Rattle.rmp_decode.proofs.FieldWiths.{field_given, field_ended}
 use Rattle.rmp_decode.proofs.Nexts.{clash}
 use Rattle.rmp_decode.proofs.access.field_access.FieldAccess.next_value_with.Goals as goal
@@ -18,32 +17,18 @@ returns-then-not-self g c = record {
 }
 
 pub returns-in-Err-clause-part : goal.returns-in-Err-clause-part
-returns-in-Err-clause-part g c = λ o.
-    let k = c.in-Err.ensures in
-    field_ended g.R.Source g.F.FnOnce c.args.f c.args.self.now c.offer.new.self o k.bytes k.stays k.met c.in-Err.e k.err k.end
+returns-in-Err-clause-part g c = λ o. rw c.data_fault.ensures (field_ended g.R.Source g.F.FnOnce c.args.f c.args.self.now _ o _ c.in-Err.ensures refl)
 
 pub part_with-requires : goal.part_with-requires
-part_with-requires g c =
-    let k = c.in-Ok.ensures in
-    c.requires.part (search rules) _ (record { from = c.offer.new.self.de.now; offers = k.ok; lent = ap (part_reader c.offer.new.self.de.now) k.same.inner })
+part_with-requires g c = c.requires.part (search rules) _ (record { from = c.offer_part.new.self; offers = c.in-Ok.ensures.ok; lent = refl })
 
 pub returns-in-Ok-part_with-clause-part : goal.returns-in-Ok-part_with-clause-part
-returns-in-Ok-part_with-clause-part g c = λ o.
-    let old = c.args.self.now in
-    let k = c.in-Ok.ensures in
-    field_given g.R.Source g.F.FnOnce c.args.f old _ o c.offer.new.self (c.requires.at_value o.sound) k.same k.ok k.met k.left
-    (record { is_map = refl; bytes = refl; names = refl; count = refl; inner = refl }) refl refl _ refl
-    (rw c.in-Ok-part_with.is at (subst (λ z. PartGiven g.F.FnOnce c.args.f z c.offer.new.self.de.now c.part_with.new.self c.part_with.result) k.same.inner
-    c.part_with.ensures))
+returns-in-Ok-part_with-clause-part g c = λ o. field_given g.R.Source g.F.FnOnce c.args.f c.args.self.now _ o _ (c.requires.at_value o.sound) c.in-Ok.ensures.ok
+    (record { is_map = refl; bytes = refl; names = refl; count = refl; inner = refl }) refl refl _ refl (rw c.in-Ok-part_with.is at c.part_with.ensures)
 
 pub returns-in-Err-part_with-clause-part : goal.returns-in-Err-part_with-clause-part
-returns-in-Err-part_with-clause-part g c = λ o.
-    let old = c.args.self.now in
-    let k = c.in-Ok.ensures in
-    field_given g.R.Source g.F.FnOnce c.args.f old _ o c.offer.new.self (c.requires.at_value o.sound) k.same k.ok k.met k.left
-    (record { is_map = refl; bytes = refl; names = refl; count = refl; inner = refl }) refl refl _ tt
-    (rw c.in-Err-part_with.is at (subst (λ z. PartGiven g.F.FnOnce c.args.f z c.offer.new.self.de.now c.part_with.new.self c.part_with.result) k.same.inner
-    c.part_with.ensures))
+returns-in-Err-part_with-clause-part g c = λ o. field_given g.R.Source g.F.FnOnce c.args.f c.args.self.now _ o _ (c.requires.at_value o.sound) c.in-Ok.ensures.ok
+    (record { is_map = refl; bytes = refl; names = refl; count = refl; inner = refl }) refl refl _ tt (rw c.in-Err-part_with.is at c.part_with.ensures)
 
 pub returns-in-Err-clause-before : goal.returns-in-Err-clause-before
 returns-in-Err-clause-before g c = λ h. clash c.args.self.now.sound c.if-not-self.false h

@@ -6,23 +6,22 @@ pub returns-in-Some : goal.returns-in-Some
 returns-in-Some g c = record {
   same_reference = refl;
   ok = key_taken _ _ _ _ _ _ c.requires.still.sound c.requires.more (c.in-Some.ensures.taken _ (inner_some c.args.self.now.inner));
-  within = c.in-Some.ensures.within;
   some = tt;
-  err = tt;
-  refused = tt;
-  memory = λ _. tt;
+  none = tt;
 }
 
 pub returns-in-Some-place_part : goal.returns-in-Some-place_part
 returns-in-Some-place_part g c = record {
   same_reference = refl;
   ok = key_taken _ _ _ _ _ _ c.requires.still.sound c.requires.more (rw c.in-None.ensures.kept at c.in-Some-place_part.ensures.ok);
-  within = c.in-Some-place_part.ensures.within;
   some = tt;
-  err = tt;
-  refused = tt;
-  memory = λ _. tt;
+  none = tt;
 }
 
-pub returns-in-None-place_part-clause-err : goal.returns-in-None-place_part-clause-err
-returns-in-None-place_part-clause-err g c = rw c.in-None.ensures.kept at c.in-None-place_part.ensures.err
+pub returns-in-None-place_part : goal.returns-in-None-place_part
+returns-in-None-place_part g c = record {
+  same_reference = refl;
+  ok = tt;
+  some = c.in-None-place_part.ensures.some;
+  none = rw c.in-None.ensures.kept at c.in-None-place_part.ensures.none;
+}

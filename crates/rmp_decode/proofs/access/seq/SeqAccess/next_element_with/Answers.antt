@@ -1,5 +1,4 @@
-use Rattle.std.proofs.Common.{ap, arith, refl, rules, inl, subst}
-use Rattle.rmp_decode.specs.With.{PartGiven, part_reader}
+use Rattle.std.proofs.Common.{◌∙◌, arith, refl, rules, inl, inr}
 use Rattle.rmp_decode.proofs.Nexts.{clash, none_left}
 use Rattle.rmp_decode.proofs.access.seq.SeqAccess.next_element_with.Goals as goal
 
@@ -29,52 +28,54 @@ returns-then-self-eq0 g c = record {
 
 pub part_with-requires : goal.part_with-requires
 part_with-requires g c =
-    c.requires (search rules) (omega (arith, c.if-self-eq0.false)) _
-    (record {
-      from = c.offer.new.self.de.now;
-      offers = c.in-Ok.ensures.ok;
-      lent = ap (λ z. part_reader c.offer.new.self.de.now z)
-          c.in-Ok.ensures.list.inner;
-    })
+    c.requires (search rules) (omega (arith, c.if-self-eq0.false)) _ (record { from = c.offer_part.new.self; offers = c.in-Ok.ensures.ok; lent = refl })
 
-pub returns-in-Err-part_with-clause-part : goal.returns-in-Err-part_with-clause-part
-returns-in-Err-part_with-clause-part g c = λ open_now some.
-    inl (record {
-      from = c.offer.new.self.de.now;
-      offers = c.in-Ok.ensures.ok;
-      given = c.part_with.result;
-      part = subst (λ z. PartGiven g.F.FnOnce c.args.f z c.offer.new.self.de.now c.part_with.new.self c.part_with.result) c.in-Ok.ensures.list.inner
-          c.part_with.ensures;
-      answers = rw c.in-Err-part_with.is refl;
-      fewer = tt;
-    })
+pub returns-in-Err : goal.returns-in-Err
+returns-in-Err g c = rw c.data_fault.ensures (record {
+  same_reference = refl;
+  list = record { count = refl; inner = refl; bytes = refl };
+  before = λ h. clash c.args.self.now.sound c.if-not-self.false h;
+  none = λ _ z. absurd (c.if-self-eq0.false z);
+  part = λ _ _. let k = c.in-Err.ensures in inr (record { bytes = k.bytes; error = _; answers = refl; stays = k.stays; err = k.err; end = k.end });
+  still = tt;
+  broken = refl;
+  marked = λ m. c.in-Err.ensures.failed ∙ m;
+})
 
-pub returns-in-Ok-part_with-clause-part : goal.returns-in-Ok-part_with-clause-part
-returns-in-Ok-part_with-clause-part g c = λ open_now some.
-    inl (record {
-      from = c.offer.new.self.de.now;
-      offers = c.in-Ok.ensures.ok;
-      given = c.part_with.result;
-      part = subst (λ z. PartGiven g.F.FnOnce c.args.f z c.offer.new.self.de.now c.part_with.new.self c.part_with.result) c.in-Ok.ensures.list.inner
-          c.part_with.ensures;
-      answers = rw c.in-Ok-part_with.is refl;
-      fewer = omega (arith, some, c.in-Ok.ensures.left);
-    })
+pub returns-in-Ok-part_with : goal.returns-in-Ok-part_with
+returns-in-Ok-part_with g c = record {
+  same_reference = refl;
+  list = record { count = refl; inner = refl; bytes = refl };
+  before = λ h. clash c.args.self.now.sound c.if-not-self.false h;
+  none = λ _ z. absurd (c.if-self-eq0.false z);
+  part = λ _ some. inl (record {
+    from = c.offer_part.new.self;
+    offers = c.in-Ok.ensures.ok;
+    given = c.part_with.result;
+    part = c.part_with.ensures;
+    answers = rw c.in-Ok-part_with.is refl;
+    fewer = omega (arith, some);
+  });
+  still = refl;
+  broken = tt;
+  marked = λ _. rw c.part_with.ensures.keeps refl;
+}
 
-pub returns-in-Err-clause-before : goal.returns-in-Err-clause-before
-returns-in-Err-clause-before g c = λ h. clash c.args.self.now.sound c.if-not-self.false h
-
-pub returns-in-Ok-part_with-clause-before : goal.returns-in-Ok-part_with-clause-before
-returns-in-Ok-part_with-clause-before g c = λ h. clash c.args.self.now.sound c.if-not-self.false h
-
-pub returns-in-Err-part_with-clause-before : goal.returns-in-Err-part_with-clause-before
-returns-in-Err-part_with-clause-before g c = λ h. clash c.args.self.now.sound c.if-not-self.false h
-
-pub returns-in-Err-clause-none : goal.returns-in-Err-clause-none
-returns-in-Err-clause-none g c = λ _ z. absurd (c.if-self-eq0.false z)
-
-pub returns-in-Ok-part_with-clause-none : goal.returns-in-Ok-part_with-clause-none
-returns-in-Ok-part_with-clause-none g c = λ _ z. absurd (c.if-self-eq0.false z)
-
-pub returns-in-Err-part_with-clause-none : goal.returns-in-Err-part_with-clause-none
-returns-in-Err-part_with-clause-none g c = λ _ z. absurd (c.if-self-eq0.false z)
+pub returns-in-Err-part_with : goal.returns-in-Err-part_with
+returns-in-Err-part_with g c = record {
+  same_reference = refl;
+  list = record { count = refl; inner = refl; bytes = refl };
+  before = λ h. clash c.args.self.now.sound c.if-not-self.false h;
+  none = λ _ z. absurd (c.if-self-eq0.false z);
+  part = λ _ _. inl (record {
+    from = c.offer_part.new.self;
+    offers = c.in-Ok.ensures.ok;
+    given = c.part_with.result;
+    part = c.part_with.ensures;
+    answers = rw c.in-Err-part_with.is refl;
+    fewer = tt;
+  });
+  still = tt;
+  broken = refl;
+  marked = λ _. rw c.part_with.ensures.keeps refl;
+}

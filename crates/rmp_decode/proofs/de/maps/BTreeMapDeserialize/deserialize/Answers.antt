@@ -9,8 +9,8 @@ pub returns-in-Some-clause-law : goal.returns-in-Some-clause-law
 returns-in-Some-clause-law g c =
     let deep = c.in-Some.ensures.deep in
     empty_map_read g.R.Source _ _ (_, _) c.in-Some.ensures.taken.begun (λ m (v : BTreeMap g.row.K.Denot g.row.V.Denot Global). ReadsEntries g.K.Ord.cmp
-    (g.K.Deserialize.reads (g.C.SerializerConfig.human c.args.de.now.config) g.R.ReadSlice.lends)
-    (g.V.Deserialize.reads (g.C.SerializerConfig.human c.args.de.now.config) g.R.ReadSlice.lends) v.entries m) _ _ refl (omega (arith, deep)) refl
+    (g.K.Deserialize.reads g.C.SerializerConfig.human g.R.ReadSlice.lends)
+    (g.V.Deserialize.reads g.C.SerializerConfig.human g.R.ReadSlice.lends) v.entries m) _ _ refl (omega (arith, deep)) refl
     ([], tt, entries_none g.met.K.Ord.total _ c.new.ensures.empty)
 
 pub returns-clause-law : goal.returns-clause-law

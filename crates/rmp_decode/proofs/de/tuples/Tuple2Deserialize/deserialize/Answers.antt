@@ -1,5 +1,6 @@
+use Rattle.std.proofs.Common.{◌||◌}
 use Rattle.rmp_decode.proofs.Laws.{lawful_ok, lawful_err}
-use Rattle.rmp_decode.proofs.Tuples.{row_as, each_field, no_field, field_each, field_none, or_each, or_none}
+use Rattle.rmp_decode.proofs.Tuples.{row_as, each_field, no_field, field_each, field_none, or_last}
 use Rattle.rmp_decode.proofs.de.tuples.Tuple2Deserialize.deserialize.Goals as goal
 
 pub returns-in-Ok-clause-law : goal.returns-in-Ok-clause-law
@@ -10,5 +11,5 @@ returns-in-Err-clause-law g c =
     lawful_err g.R.Source _ _ _ _ _ (λ m r. ((r.0.0, (r.0.1, tt)), row_as _ _ (field_each _ _ _ _ (field_each _ _ _ _ field_none)) m r.1)) c.in-Err.ensures.law
 
 pub returns-in-Err-clause-memory : goal.returns-in-Err-clause-memory
-returns-in-Err-clause-memory g c = λ n. c.in-Err.ensures.memory
-    ((or_each (g.A.Deserialize.takes_memory g.R.ReadSlice.lends) _ _ (or_none (g.B.Deserialize.takes_memory g.R.ReadSlice.lends))) n)
+returns-in-Err-clause-memory g c = λ n. let y = g.R.ReadSlice.lends
+    in c.in-Err.ensures.memory (or_last (λ z. g.A.Deserialize.takes_memory y || z) (g.B.Deserialize.takes_memory y) n)

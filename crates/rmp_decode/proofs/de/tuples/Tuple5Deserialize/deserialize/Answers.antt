@@ -1,5 +1,6 @@
+use Rattle.std.proofs.Common.{◌||◌}
 use Rattle.rmp_decode.proofs.Laws.{lawful_ok, lawful_err}
-use Rattle.rmp_decode.proofs.Tuples.{row_as, each_field, no_field, field_each, field_none, or_each, or_none}
+use Rattle.rmp_decode.proofs.Tuples.{row_as, each_field, no_field, field_each, field_none, or_last}
 use Rattle.rmp_decode.proofs.de.tuples.Tuple5Deserialize.deserialize.Goals as goal
 
 pub returns-in-Ok-clause-law : goal.returns-in-Ok-clause-law
@@ -15,8 +16,6 @@ returns-in-Err-clause-law g c =
     )) c.in-Err.ensures.law
 
 pub returns-in-Err-clause-memory : goal.returns-in-Err-clause-memory
-returns-in-Err-clause-memory g c = λ n. c.in-Err.ensures.memory
-    ((or_each (g.A.Deserialize.takes_memory g.R.ReadSlice.lends) _ _
-    (or_each (g.B.Deserialize.takes_memory g.R.ReadSlice.lends) _ _
-    (or_each (g.D.Deserialize.takes_memory g.R.ReadSlice.lends) _ _
-    (or_each (g.E.Deserialize.takes_memory g.R.ReadSlice.lends) _ _ (or_none (g.F.Deserialize.takes_memory g.R.ReadSlice.lends)))))) n)
+returns-in-Err-clause-memory g c = λ n. let y = g.R.ReadSlice.lends
+    in c.in-Err.ensures.memory (or_last (λ z. g.A.Deserialize.takes_memory y
+    || (g.B.Deserialize.takes_memory y || (g.D.Deserialize.takes_memory y || (g.E.Deserialize.takes_memory y || z)))) (g.F.Deserialize.takes_memory y) n)

@@ -1,17 +1,6 @@
 use Rattle.std.proofs.Common.{rules, refl}
-use Rattle.rmp_decode.proofs.HeadKinds.{
-  signed_8,
-  signed_16,
-  signed_32,
-  signed_64,
-  negative_starts,
-  opened_starts,
-  opens_negative,
-  opens_signed_8,
-  opens_signed_16,
-  opens_signed_32,
-  opens_signed_64,
-}
+use Rattle.rmp_decode.proofs.HeadKinds.{signed_8, signed_16, signed_32, signed_64, negative_starts, opened_starts, opens_negative, opens_signed_8}
+use Rattle.rmp_decode.proofs.HeadKinds.{opens_signed_16, opens_signed_32, opens_signed_64}
 use Rattle.rmp_decode.proofs.deserializer.peek.table.signed_at.Goals as goal
 
 pub returns-in-224-to-255-clause-any : goal.returns-in-224-to-255-clause-any

@@ -1,9 +1,9 @@
-use Rattle.std.proofs.Common.{◌∙◌, refl, sym, arith}
+use Rattle.std.proofs.Common.{◌∙◌, refl, sym, arith, rules}
 use Rattle.std.proofs.lemmas.Result.{err_from_is_err_and}
 use Rattle.rmp_recursive.proofs.Parts.{ok_holds}
 use Rattle.rmp_recursive.specs.Parts.{all_by}
 use Rattle.rmp_encode.proofs.Going.{unopened}
-use Rattle.rmp_encode.proofs.Parts.{rests_at, part_memory}
+use Rattle.rmp_encode.proofs.Parts.{rests_at, part_takes}
 use Rattle.test_json.specs.DirLevels.{dir_is_own, dir_fits_in}
 use Rattle.test_json.specs.declared.dirs.Dir.{out-Dir}
 use Rattle.test_json.proofs.dirs.derived.DirSerialize.+dir_writing.Goals as goal
@@ -11,20 +11,20 @@ use Rattle.test_json.proofs.dirs.derived.DirSerialize.+dir_writing.Goals as goal
 pub returns-in_err-fields-clause-writes : goal.returns-in_err-fields-clause-writes
 returns-in_err-fields-clause-writes g t c =
     let p = err_from_is_err_and c.from_residual.result c.from_residual.ensures.1 in
-    rw (p.1, p.2, dir_is_own c.args.self.now) (part_memory g.W.Sink
+    rw (p.1, p.2, dir_is_own c.args.self.now) (part_takes g.W.Sink _ (λ h. grind rules)
     (unopened g.W.Sink _ _ _ _ c.args.se.now _ _ _ _ c.in_err-fields.was c.serialize_struct.follows.holds-at-none refl))
 
 pub returns-in_err-serialize_field-clause-writes : goal.returns-in_err-serialize_field-clause-writes
 returns-in_err-serialize_field-clause-writes g t c =
     let p = err_from_is_err_and c.from_residual-in_err-serialize_field.result c.from_residual-in_err-serialize_field.ensures.1 in
-    rw (p.1, p.2, dir_is_own c.args.self.now) (part_memory g.W.Sink
+    rw (p.1, p.2, dir_is_own c.args.self.now) (part_takes g.W.Sink _ (λ h. grind rules)
     (rests_at g.W.Sink (grind (arith, sym (c.in_err-serialize_field.ensures.same_reference ∙ c.in_ok-fields.ensures.same_reference)))
     (c.in_err-serialize_field.ensures.writes c.args.se.now _ _ (c.in_ok-fields.ensures.opened _ refl))))
 
 pub returns-in_err-serialize_field-2-clause-writes : goal.returns-in_err-serialize_field-2-clause-writes
 returns-in_err-serialize_field-2-clause-writes g t c =
     let p = err_from_is_err_and c.from_residual-in_err-serialize_field-2.result c.from_residual-in_err-serialize_field-2.ensures.1 in
-    rw (p.1, p.2, dir_is_own c.args.self.now) (part_memory g.W.Sink
+    rw (p.1, p.2, dir_is_own c.args.self.now) (part_takes g.W.Sink _ (λ h. grind rules)
     (rests_at g.W.Sink (grind (
       arith,
       sym (c.in_err-serialize_field-2.ensures.same_reference ∙ c.in_ok-serialize_field.ensures.same_reference
@@ -35,7 +35,7 @@ returns-in_err-serialize_field-2-clause-writes g t c =
 
 pub returns-clause-writes : goal.returns-clause-writes
 returns-clause-writes g t c =
-    rw (dir_is_own c.args.self.now) (part_memory g.W.Sink
+    rw (dir_is_own c.args.self.now) (part_takes g.W.Sink _ (λ h. grind rules)
     (rests_at g.W.Sink (grind (
       arith,
       sym (c.in_ok-serialize_field-2.ensures.same_reference ∙ c.in_ok-serialize_field.ensures.same_reference

@@ -5,8 +5,8 @@ use Rattle.std.specs.Int.{w16, w128}
 use Rattle.test_wide.proofs.manifest.derived.ManifestDeserialize.deserialize.Goals as goal
 
 pub returns-in-Ok-clause-law : goal.returns-in-Ok-clause-law
-returns-in-Ok-clause-law g c = rw (to_z-of_z w128 c.in-Ok.parts.rest.1 (search rules))
-    (rw (to_z-of_z w16 c.in-Ok.parts.rest.0 (search rules)) (lawful_ok _ _ _ _ _ _ _ (λ m r. r) c.in-Ok.ensures.law))
+returns-in-Ok-clause-law g c = rw (to_z-of_z w128 c.in-Ok.parts.rest.rest.1 (search rules))
+    (rw (to_z-of_z w16 c.in-Ok.parts.rest.rest.0 (search rules)) (lawful_ok _ _ _ _ _ _ _ (λ m r. r) c.in-Ok.ensures.law))
 
 pub returns-in-Err-clause-law : goal.returns-in-Err-clause-law
 returns-in-Err-clause-law g c = lawful_err _ _ _ _ _ _
@@ -20,15 +20,17 @@ returns-in-Err-clause-law g c = lawful_err _ _ _ _ _ _
         sixth = r.0.flag;
         seventh = r.0.spot;
         eighth = r.0.cargo;
-        ninth = r.0.depths;
-        tenth = r.0.last;
-        eleventh = r.0.chart;
-        twelfth = r.0.pair;
-        thirteenth = r.0.owner;
-        fourteenth = r.0.tonnage;
-        fifteenth = r.0.draught;
-        sixteenth = r.0.ports;
-        rest = (r.0.heading, r.0.debt, r.0.berths, r.0.done, tt);
+        rest = record {
+          first = r.0.depths;
+          second = r.0.last;
+          third = r.0.chart;
+          fourth = r.0.pair;
+          fifth = r.0.owner;
+          sixth = r.0.tonnage;
+          seventh = r.0.draught;
+          eighth = r.0.ports;
+          rest = (r.0.heading, r.0.debt, r.0.berths, r.0.done, tt);
+        };
       },
       r.1,
     )) c.in-Err.ensures.law

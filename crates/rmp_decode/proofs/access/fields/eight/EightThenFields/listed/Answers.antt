@@ -1,12 +1,6 @@
-use Rattle.rmp_decode.proofs.Tuples.{row_narrower}
+use Rattle.rmp_decode.proofs.Tuples.{parts_fail_as}
 use Rattle.rmp_decode.proofs.access.fields.eight.EightThenFields.listed.Goals as goal
 
 pub returns-in-Err-clause-err : goal.returns-in-Err-clause-err
-returns-in-Err-clause-err g c = let f = c.in-Err.ensures.err in record {
-  stays = f.stays;
-  failed = f.failed;
-  err = λ m k. row_narrower _ _ _ _ _ _ (λ ms r. (
-    (r.0.first, r.0.second, r.0.third, r.0.fourth, (r.0.fifth, r.0.sixth, r.0.seventh, r.0.eighth, r.0.rest)),
-    r.1,
-  )) (f.err m k);
-}
+returns-in-Err-clause-err g c = parts_fail_as (λ ms r.
+    ((r.0.first, r.0.second, r.0.third, r.0.fourth, (r.0.fifth, r.0.sixth, r.0.seventh, r.0.eighth, r.0.rest)), r.1)) c.in-Err.ensures.err

@@ -1,13 +1,8 @@
-use Rattle.rmp_decode.proofs.FieldRows.{if_some}
-use Rattle.rmp_decode.proofs.Tuples.{row_narrower}
+use Rattle.rmp_decode.proofs.Fields.{if_some}
+use Rattle.rmp_decode.proofs.FieldRows.{row_fails_as}
 use Rattle.rmp_decode.proofs.access.fields.eight.EightThenFields.row.Goals as goal
 
 pub returns-clause-err : goal.returns-clause-err
-returns-clause-err g c = λ n. if_some c.row.new.refusal (λ e f. record {
-  stays = f.stays;
-  failed = f.failed;
-  err = λ m k. row_narrower _ _ _ _ _ _ (λ ms r. (
-    (r.0.first, r.0.second, r.0.third, r.0.fourth, (r.0.fifth, r.0.sixth, r.0.seventh, r.0.eighth, r.0.rest)),
-    r.1,
-  )) (f.err m k);
-}) (c.row.ensures.err n)
+returns-clause-err g c = λ n. if_some c.row.new.refusal
+    (λ e. row_fails_as (λ ms r. ((r.0.first, r.0.second, r.0.third, r.0.fourth, (r.0.fifth, r.0.sixth, r.0.seventh, r.0.eighth, r.0.rest)), r.1)))
+    (c.row.ensures.err n)

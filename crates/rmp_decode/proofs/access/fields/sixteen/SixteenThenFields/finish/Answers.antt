@@ -1,7 +1,7 @@
 use Rattle.rmp_decode.proofs.access.fields.sixteen.SixteenThenFields.finish.Goals as goal
 
-pub returns-in-Err-clause-all : goal.returns-in-Err-clause-all
-returns-in-Err-clause-all g c = λ human lends fs h v. c.in-Err.ensures.all human lends fs h
+pub returns-in-None-clause-all : goal.returns-in-None-clause-all
+returns-in-None-clause-all g c = λ human lends fs h v. c.in-None.ensures.all human lends fs h
     (record {
       first = v.first;
       second = v.second;
@@ -24,5 +24,5 @@ returns-in-Err-clause-all g c = λ human lends fs h v. c.in-Err.ensures.all huma
       };
     })
 
-pub returns-in-Err-clause-first : goal.returns-in-Err-clause-first
-returns-in-Err-clause-first g c = c.in-Err.ensures.first
+pub returns-in-None-clause-first : goal.returns-in-None-clause-first
+returns-in-None-clause-first g c = c.in-None.ensures.first

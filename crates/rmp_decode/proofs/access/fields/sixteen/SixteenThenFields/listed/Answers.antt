@@ -1,32 +1,28 @@
-use Rattle.rmp_decode.proofs.Tuples.{row_narrower}
+use Rattle.rmp_decode.proofs.Tuples.{parts_fail_as}
 use Rattle.rmp_decode.proofs.access.fields.sixteen.SixteenThenFields.listed.Goals as goal
 
 pub returns-in-Err-clause-err : goal.returns-in-Err-clause-err
-returns-in-Err-clause-err g c = let f = c.in-Err.ensures.err in record {
-  stays = f.stays;
-  failed = f.failed;
-  err = λ m k. row_narrower _ _ _ _ _ _ (λ ms r. (
-    (record {
-      first = r.0.first;
-      second = r.0.second;
-      third = r.0.third;
-      fourth = r.0.fourth;
-      fifth = r.0.fifth;
-      sixth = r.0.sixth;
-      seventh = r.0.seventh;
-      eighth = r.0.eighth;
-      rest = record {
-        first = r.0.ninth;
-        second = r.0.tenth;
-        third = r.0.eleventh;
-        fourth = r.0.twelfth;
-        fifth = r.0.thirteenth;
-        sixth = r.0.fourteenth;
-        seventh = r.0.fifteenth;
-        eighth = r.0.sixteenth;
-        rest = r.0.rest;
-      };
-    }),
-    r.1,
-  )) (f.err m k);
-}
+returns-in-Err-clause-err g c = parts_fail_as (λ ms r. (
+  (record {
+    first = r.0.first;
+    second = r.0.second;
+    third = r.0.third;
+    fourth = r.0.fourth;
+    fifth = r.0.fifth;
+    sixth = r.0.sixth;
+    seventh = r.0.seventh;
+    eighth = r.0.eighth;
+    rest = record {
+      first = r.0.ninth;
+      second = r.0.tenth;
+      third = r.0.eleventh;
+      fourth = r.0.twelfth;
+      fifth = r.0.thirteenth;
+      sixth = r.0.fourteenth;
+      seventh = r.0.fifteenth;
+      eighth = r.0.sixteenth;
+      rest = r.0.rest;
+    };
+  }),
+  r.1,
+)) c.in-Err.ensures.err

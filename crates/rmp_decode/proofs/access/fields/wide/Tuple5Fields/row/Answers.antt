@@ -1,10 +1,6 @@
-use Rattle.rmp_decode.proofs.FieldRows.{if_some}
-use Rattle.rmp_decode.proofs.Tuples.{row_narrower}
+use Rattle.rmp_decode.proofs.FieldRows.{row_fails_as}
+use Rattle.rmp_decode.proofs.Fields.{if_some}
 use Rattle.rmp_decode.proofs.access.fields.wide.Tuple5Fields.row.Goals as goal
 
 pub returns-clause-err : goal.returns-clause-err
-returns-clause-err g c = λ n. if_some c.row.new.refusal (λ e f. record {
-  stays = f.stays;
-  failed = f.failed;
-  err = λ m k. row_narrower _ _ _ _ _ _ (λ ms r. ((r.0.0, (r.0.1, (r.0.2, (r.0.3, r.0.4)))), r.1)) (f.err m k);
-}) (c.row.ensures.err n)
+returns-clause-err g c = λ n. if_some c.row.new.refusal (λ e. row_fails_as (λ ms r. ((r.0.0, (r.0.1, (r.0.2, (r.0.3, r.0.4)))), r.1))) (c.row.ensures.err n)

@@ -1,0 +1,2 @@
+-- What attributes of derived types name.
+pub use Rattle.rmp_encode.specs.Data.{lower}

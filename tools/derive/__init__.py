@@ -1,0 +1,1 @@
+"""The tool that derives: tools/derive.py. tools/README.md says which room has what."""

@@ -1,0 +1,1 @@
+"""Reads declarations: the text of a file, its types, its notes, and what it brings in."""

@@ -1,0 +1,1 @@
+"""Writes what is derived for types that lead back to themselves."""

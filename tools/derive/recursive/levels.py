@@ -1,0 +1,655 @@
+"""What derive.py knows of recursive types: what they hold, how that is called in terms, and what their definitions and laws share."""
+from __future__ import annotations
+
+import dataclasses
+import itertools
+import re
+from collections.abc import Iterator
+from typing import Optional
+
+from ..table.types import QUOTED, Declared, Field, Shape
+from ..table.kinds import identifiers
+from ..flat.proofs import SIGNED
+from ..table.own import Own
+from ..flat.terms import codes, underscored
+from .given import given_parts, homes_of, put_together
+from .leaves import LEAVES, Part, Values, leaf_of, put_in, terms_of
+from .shapes import shape_of
+from shared.terms import tuple_of
+
+
+@dataclasses.dataclass(frozen=True)
+class Again(Part):
+    """The type {name} again, in a list, a box or an option, whose functions begin with {low}."""
+
+    # how its values are told apart where a level is mapped, and for each that P holds of its parts, and what is known of it at a place i
+    # between a level's parts and theirs
+    patterns: tuple[tuple[str, str, str], ...] = ()
+    # one step of its reading by another, and the number of its steps with what is read in them
+    wider: str = ""
+    counted: str = ""
+    # that P holds of its parts
+    parts: str = ""
+    # what is known of it from that it was written
+    known: str = "h"
+    # what it is written as, over the type's data, and that this isn't refused
+    own: str = ""
+    is_some: str = "h"
+    # the keys of a map of it, and what it is written as, at i between what its mapped values are written as and what its values are
+    keys: Optional[Part] = None
+    mapped: str = ""
+    # its form: the type alone, a list, a queue, a box, an option, a map or a row of values; and what is in it that isn't the type alone
+    form: str = ""
+    inner: Optional[Again] = None
+    # that what has the same content, {e}, is written alike in one way of writing the parts that are given
+    told: str = ""
+
+    @property
+    def is_leaf(self) -> bool:
+        return False
+
+    def alike_by(self, value: str, other: str, fact: str, fit: str = "") -> str:
+        return super().alike_by(value, other, self.told.format(v=value, w=other, e=fact), fit)
+
+    def of(self, level: Level) -> Again:
+        """The same of a type."""
+        def told(it: object) -> object:
+            if isinstance(it, tuple):
+                return tuple(told(one) for one in it)
+            if not isinstance(it, str):
+                return it
+            return it.replace("{name}", level.name).replace("{low}", level.low).replace("{kind}", level.kind).replace("{bound}", level.bound)
+
+        words = {field.name: told(getattr(self, field.name)) for field in dataclasses.fields(self)}
+        return Again(**words | ({} if level.given else {"told": "{e}"}))
+
+
+LIST = Again(
+    "Vec<{kind}>", "Vec {name} Global", "Row {reads} {k} {a}.items", "slice_of {a}.items", "AllByRecursion {fits} {a}.items",
+    row="""slice_row s (map {low}_data {a}.items) (λ ms. ReadsEach Is{name} ms {a}.items)
+      (each_row s {low}_data {name}Back Is{name} (λ w p. p) {a}.items (each_from {low}_fits {name}Back {a}.items h {fit}))""",
+    only="""list_only s (slice_of (map {low}_data {a}.items)) (λ us. us.items) Is{name} Same{name} {a}.items
+      (slice_row s (map {low}_data {a}.items) (λ ms. ReadsEach (Only Is{name} Same{name}) ms {a}.items)
+      (each_row s {low}_data {name}Only (Only Is{name} Same{name}) (λ w p. p) {a}.items (each_from {low}_fits {name}Only {a}.items h {fit})))""",
+    word="list",
+    form="list",
+    patterns=(("a", "each_holds P first h a.items", "through at k a.items i"),),
+    wider="row_as P Q f m a.items h",
+    counted="row_in {name}In {low}_up m a.items h",
+    parts="All P {a}.items",
+    known="all_by _ a.items h",
+    own="slice_of (map {low}_data {a}.items)",
+    is_some="(slice_some (map {low}_data {a}.items) (each_data {low}_data {a}.items h))",
+    same="Alike Same{name} x.items y.items",
+    alike="ap slice_of (map_alike {low}_data {v}.items {w}.items {e})",
+    told="(alike_as Same{name} (λ v w. {low}_data v ≡ {low}_data w) (λ v w h. h{bound}) {v}.items {w}.items {e})",
+)
+
+QUEUE = dataclasses.replace(
+    LIST, kind="VecDeque<{kind}>", term="VecDeque {name} Global", word="queue", form="queue",
+    **{word: getattr(LIST, word).replace("slice_", "sequence_") for word in ("data", "row", "only", "own", "is_some", "alike")}, other="sequence_other s _",
+)
+LIST = dataclasses.replace(LIST, other="slice_other s _")
+
+# The type alone, as it is inside of others.
+ALONE = Again(
+    "{kind}", "{name}", "{reads} {k} {a}", "{a}", "{fits} {a}",
+    row="h {fit}",
+    only="h {fit}",
+    form="alone",
+    patterns=(("a", "h a", "k (at a)"),),
+    wider="f m a h",
+    counted="h",
+    parts="P {a}",
+    own="{low}_data {a}",
+    same="Same{name} x y",
+    alike="{e}",
+    told="({e}{bound})",
+)
+
+BOX = Again(
+    "Box<{kind}>", "Box {name} Global", "{reads} {k} {a}.value", "{a}.value", "{fits} {a}.value",
+    row="h {fit}",
+    only="inside_only s ({low}_data {a}.value) (λ b. b.value) Is{name} Same{name} {a}.value (h {fit})",
+    word="box",
+    form="box",
+    patterns=(("a", "h a.value", "k (at a.value)"),),
+    wider="f m a.value h",
+    counted="h",
+    parts="P {a}.value",
+    own="{low}_data {a}.value",
+    same="Same{name} x.value y.value",
+    alike="{e}",
+    told="({e}{bound})",
+)
+
+BOXED = "(b : Box {name} Global)"
+OPTION = Again(
+    "Option<Box<{kind}>>", "Option (Box {name} Global)", "IsOption (Boxed {reads}) {k} {a}", "option_of (λ b. b.value) {a}",
+    "IfSome {a} (λ b. {fits} b.value)",
+    row=f"""option_row s (λ {BOXED}. {{low}}_data b.value) (λ b. {{name}}Back b.value) (Boxed Is{{name}})
+      (λ b. {{low}}_other b.value) (λ b p. p) {{a}} (option_from (λ {BOXED}. {{low}}_fits b.value) (λ b. {{name}}Back b.value) {{a}} h {{fit}})""",
+    only=f"""option_only s (option_of (λ {BOXED}. {{low}}_data b.value) {{a}}) (Boxed Is{{name}}) (λ b c. Same{{name}} b.value c.value) {{a}}
+      (option_row s (λ {BOXED}. {{low}}_data b.value) (λ b. {{name}}Only b.value) (Only (Boxed Is{{name}}) (λ b c. Same{{name}} b.value c.value))
+      (λ b. {{low}}_other s b.value) (λ b p. inside_only s ({{low}}_data b.value) (λ {BOXED}. b.value) Is{{name}} Same{{name}} b.value p) {{a}}
+      (option_from (λ {BOXED}. {{low}}_fits b.value) (λ b. {{name}}Only b.value) {{a}} h {{fit}}))""",
+    word="option",
+    form="option",
+    patterns=(("None", "tt", "⊤"), ("(Some a)", "h a.value", "k (at a.value)")),
+    wider="option_as (Boxed P) (Boxed Q) (λ n b. f n b.value) m a h",
+    counted="option_in (λ n. Boxed ({name}In n)) m a h",
+    parts="IfSome {a} (λ b. P b.value)",
+    own=f"option_of (λ {BOXED}. {{low}}_data b.value) {{a}}",
+    is_some=f"(option_data (λ {BOXED}. {{low}}_data b.value) {{a}} h)",
+    absent="(Some None)",
+    made_absent="Some(None)",
+    same=f"AlikeOption (λ {BOXED} c. Same{{name}} b.value c.value) x y",
+    alike=f"option_alike (λ {BOXED}. {{low}}_data b.value) {{v}} {{w}} {{e}}",
+    told=f"""(alike_option_as (λ {BOXED} c. Same{{name}} b.value c.value) (λ {BOXED} c. {{low}}_data b.value ≡ {{low}}_data c.value)
+      (λ b c h. h{{bound}}) {{v}} {{w}} {{e}})""",
+)
+
+
+@dataclasses.dataclass(frozen=True)
+class Keys:
+    """The order of a map's keys: by the content of two keys, by the keys, that it is total, and that keys are equal that it doesn't tell apart."""
+
+    contents: str
+    order: str
+    total: str
+    exact: str
+
+    def map_of(self, key: Part) -> Again:
+        """The type in a map with keys of this order."""
+        it = Values(key)
+        data, reads, fits, same = it.data, it.reads, it.fits, it.same
+        content, entry = f"(λ (q : {key.term}). {key.key.format(a='q')})", f"(e : {key.term} × {{name}})"
+        own = f"mapping_of (in_turn {data} {{low}}_data {{a}}.entries)"
+        rows = f"""pairs_row s {data} {{low}}_data {fits} {{name}}Only (Only {reads} {same}) (Only Is{{name}} Same{{name}})
+      {it.only} (λ w p. p) {{a}}.entries (entries_from {fits} {{low}}_fits {{name}}Only {{a}}.entries h {{fit}}.0)"""
+        return Again(
+            f"BTreeMap<{key.kind}, {{kind}}>", f"BTreeMap ({key.term}) {{name}} Global",
+            f"ReadsEntries {self.order} {it.plain} {{reads}} {{a}}.entries {{k}}",
+            f"mapping_of (in_turn {data} (λ x. x) {{a}}.entries)", f"EntriesFit {self.order} {fits} {{fits}} {{a}}.entries",
+            row=f"""map_row s {data} {{low}}_data {fits} {{name}}Back {reads} Is{{name}} {it.row} (λ w p. p)
+      {self.total} {{a}}.entries {{fit}}.1 (entries_from {fits} {{low}}_fits {{name}}Back {{a}}.entries h {{fit}}.0)""",
+            only=f"map_only {reads} Is{{name}} {same} Same{{name}} s ({own}) (λ us. us.entries) {self.order} {{a}}.entries\n      ({rows})",
+            word=f"{key.kind.lower()}_map",
+            form="map",
+            patterns=(("a", "entries_hold first P h a.entries", f"entries_through at {self.order} {fits} k a.entries i"),),
+            wider=f"map_as {self.order} {reads} P Q f m a.entries h",
+            counted=f"map_in {self.order} {reads} {{name}}In {{low}}_up m a.entries h",
+            parts=f"All (λ {entry}. P e.1) {{a}}.entries",
+            known="(all_by _ a.entries h.0, h.1)",
+            own=own,
+            is_some=f"(mapping_data {data} {{low}}_data (λ q. refl) {{a}}.entries h)",
+            same=f"AlikeEntries {self.order} {same} Same{{name}} x.entries y.entries",
+            alike=f"""ap mapping_of (maps_alike {content} ({self.contents}) {self.total} ({self.exact}) (λ q. {key.of_key.format(a='q')})
+      {{low}}_data {{v}}.entries {{w}}.entries {{fit}}.1 {{e}})""",
+            keys=key,
+            mapped=f"mapping_of (turns_mapped {data} {{low}}_data {{a}}.entries i)",
+            told=f"(entries_as {self.order} {same} Same{{name}} (λ v w. {{low}}_data v ≡ {{low}}_data w) (λ v w h. h{{bound}}) {{v}}.entries {{w}}.entries {{e}})",
+        )
+
+
+UNSIGNED = Keys("nat_cmp", "nat_cmp", "nat_cmp_total", "exact_unsigned")
+ORDERS = {
+    "String": Keys("slice_cmp nat_cmp", "string_cmp", "string_cmp_total", "exact_bytes"),
+    **dict.fromkeys(("u8", "u16", "u32", "u64", "usize", "u128", "char"), UNSIGNED),
+    "bool": Keys("bool_cmp", "bool_cmp", "bool_cmp_total", "exact_truth"),
+}
+MAPS = tuple(order.map_of(LEAVES[kind]) for kind, order in ORDERS.items())
+
+AGAIN = (LIST, QUEUE, BOX, OPTION)
+
+
+class Level:
+    """A type that leads back to itself: its variants with what they hold, or its fields, and the names of what is written for it."""
+
+    def __init__(self, of: Declared, crate: str, declared: str, types: Optional[dict[str, Own]] = None) -> None:
+        self.of, self.crate, self.declared, self.types = of, crate, declared, types or {}
+        # what it is called in code, and in terms, where another word may have its name
+        self.kind, self.name = of.name, f"Own{of.name}" if is_taken(of.name) else of.name
+        self.low = underscored(self.name)
+        # the parts that are known by their traits alone, the ways to write them by which two values are written alike, and what the words of its
+        # definitions and lemmas take of them
+        self.bound, self.words = "", {}
+        self.given: list[Part] = []
+        self.given = given_parts((kind for kind in of.kinds() if not self.part_of(kind) and of.name not in identifiers(kind)), self.types)
+        self.bound = " data_of alike_of" * bool(self.given)
+        # the type that is read, in which function; and in terms the type of its values, and of what has their fields
+        self.whole, self.reader = self, f"read_{self.low}"
+        self.term, self.opened = self.name, f"{self.name}-F {self.name}"
+        self.variants = [(shape, self.content_of(shape)) for shape in of.variants or []]
+        self.fields = [(field, self.held_by(field)) for field in of.shape.fields] if of.shape else []
+
+    @property
+    def reads(self) -> str:
+        """What the type is read from."""
+        return f"Is{self.whole.name}"
+
+    def brought(self, words: str) -> str:
+        """Words of the type's declaration, which have its name for {name}, as they are called here."""
+        if self.name == self.kind:
+            return words.format(name=self.name)
+        return " ".join(f"{word.format(name=self.kind)} as {word.format(name=self.name)}" for word in words.split())
+
+    def own(self, value: str = "v") -> str:
+        """What has a value's fields, in terms."""
+        return f"(out-{self.name} {value})"
+
+    def place(self, at: int, value: str) -> str:
+        """The field at a place, of what has them."""
+        return f"{value}.{self.fields[at][0].name}"
+
+    def is_leaf(self) -> bool:
+        """Whether each field is a leaf."""
+        return all(part.is_leaf for _, part in self.fields)
+
+    def said(self, word: str, reads: str) -> str:
+        """A word on the fields, by what the type is read from, unless none holds it."""
+        return self.name + word + f" {reads}" * (not self.is_leaf())
+
+    def part_of(self, kind: str) -> Optional[Part]:
+        """What is known of a value of this type, if it is one that such a type may hold."""
+        leaf = leaf_of(kind, self.types)
+        if leaf and any(it.declared and is_taken(it.kind) for it in leaf.within()):
+            leaf = None
+        known = leaf or next((again for again in (it.of(self) for it in [*AGAIN, *MAPS]) if again.kind == kind), None)
+        known = known or (shape_of(self, kind, Again) if self.kind in identifiers(kind) else None)
+        return known or next((part for part in self.given if part.kind == kind), None)
+
+    def alone(self) -> Again:
+        """The type inside of others."""
+        return ALONE.of(self)
+
+    def held_by(self, field: Field) -> Optional[Part]:
+        """What is known of a field's value, and of its default."""
+        part, default = self.part_of(field.kind), field.default
+        return dataclasses.replace(part, absent=f"(Some ({default.term}))", made_absent=f"Some({default.made})") if part and default else part
+
+    def content_of(self, shape: Shape) -> Optional[Part]:
+        """What a variant holds: nothing, a value, or the tuple of several."""
+        held = [part for part in (self.held_by(field) for field in shape.fields) if part]
+        if shape.kind == "named" and held:
+            return Content(self, shape, held).part()
+        return self.row_of(shape, held) if len(held) > 1 else (held or [None])[0]
+
+    def row_of(self, shape: Shape, held: list[Part]) -> Part:
+        """Several values, as a tuple, which are read from a list. If each is a leaf, the tuple is one, too."""
+        kind, term, word = tuple_of([part.kind for part in held]), terms_of(held), f"{underscored(shape.name)}_values"
+        reads = f"{self.name}Row{shape.name} {{reads}} {{k}} {{a}}"
+        if all(part.is_leaf for part in held):
+            return Part(kind, term, reads.replace(" {reads}", ""), "", "", is_lent=True, word=f"{self.low}_{word}", held=tuple(held))
+        wider, counted = f"{self.low}_as_{shape.name} P Q f m a h", f"{self.low}_in_{shape.name} m a h"
+        return Again(kind, term, reads, "", "", word=word, held=tuple(held), form="row", wider=wider, counted=counted)
+
+    def rows(self) -> list[tuple[Shape, Part]]:
+        """The variants that hold several values, with their tuples."""
+        return [(shape, part) for shape, part in self.variants if part and part.held and not part.named]
+
+    def contents(self) -> list[Content]:
+        """What the variants hold that have fields with names."""
+        return [part.named for _, part in self.variants if part and part.named]
+
+    def contents_again(self) -> list[Content]:
+        """Those that hold the type again."""
+        return [of for of in self.contents() if not of.is_leaf()]
+
+    def parts(self) -> list[Part]:
+        """What it holds, with the values of a tuple that isn't a leaf."""
+        return [part for _, of in [*self.variants, *self.fields] if of for part in all_in(of)]
+
+    def made(self, shape: Shape, values: list[str]) -> str:
+        """A level that is this variant, of these values."""
+        return f"({' '.join([f'{self.name}-F.{shape.name}', *values])})" if values else f"{self.name}-F.{shape.name}"
+
+    def names(self) -> str:
+        return codes(shape.key for shape, _ in self.variants)
+
+    def leaves(self) -> list[Part]:
+        """What its leaves are, each once."""
+        return list(dict.fromkeys(part for part in self.parts() if part.is_leaf))
+
+    def own_leaves(self) -> list[Part]:
+        """The types of the crate among its leaves, each once."""
+        return list(dict.fromkeys(it for part in self.parts() for it in part.within() if it.declared))
+
+    def holders(self) -> list[Again]:
+        """What it is again in, each once. An option's value is in a box."""
+        found = dict.fromkeys(part for part in self.parts() if isinstance(part, Again) and part.form != "alone")
+        if OPTION.of(self) in found:
+            found[BOX.of(self)] = None
+        return list(found)
+
+
+class Content(Level):
+    """The content of a variant with named fields: a tuple of their values, which is read as the fields of a struct are."""
+
+    def __init__(self, whole: Level, shape: Shape, held: list[Part]) -> None:
+        self.whole, self.kind, self.shape, self.crate, self.declared = whole, whole.kind, shape, whole.crate, whole.declared
+        self.name, self.low = whole.name + shape.name, f"{whole.low}_{underscored(shape.name)}"
+        self.fields: list[tuple[Field, Part]] = list(zip(shape.fields, held))
+        self.variants = []
+        self.reader, self.term = f"read_{self.low}_fields", terms_of(held)
+        self.opened = self.term
+
+    def own(self, value: str = "v") -> str:
+        return value
+
+    def place(self, at: int, value: str) -> str:
+        return f"{value}.{at}" if len(self.fields) > 1 else value
+
+    def part(self) -> Part:
+        """What is known of it, as of what a variant holds. If each field is a leaf, it is one, too."""
+        held = tuple(part for _, part in self.fields)
+        kind = tuple_of([part.kind for part in held]) if len(held) > 1 else held[0].kind
+        reads, name, low = f"{self.said('Read', '{reads}')} {{k}} {{a}}", self.shape.name, self.whole.low
+        if self.is_leaf():
+            return Part(kind, self.term, reads, "", "", is_lent=True, word=f"{self.low}_fields", held=held, named=self)
+        wider, counted = f"{low}_as_{name} P Q f m a h", f"{low}_in_{name} m a h"
+        return Again(kind, self.term, reads, "", "", word=f"{underscored(name)}_fields", held=held, named=self, wider=wider, counted=counted)
+
+
+def all_in(part: Part) -> list[Part]:
+    """A part, and the parts that it is read by."""
+    if not isinstance(part, Again):
+        return [part]
+    inner = [part.inner] * bool(part.inner) + [*part.held] + [part.keys] * bool(part.keys)
+    return [part, *(of for one in inner for of in all_in(one))]
+
+
+def peano(at: int) -> str:
+    """A number as a pattern."""
+    return "zero" if at == 0 else f"(suc {peano(at - 1)})"
+
+
+def listed(names: str) -> list[str]:
+    """The names of a table's row, each once, one that is called otherwise with what it is called."""
+    return list(dict.fromkeys(re.findall(r"\S+ as \S+|\S+", names)))
+
+
+def brought_in(text: str, table: dict[str, str]) -> str:
+    """The lines that bring in the names of the table that a text has."""
+    words, lines = set(re.findall(r"(?<![\w.-])[\w-]+", text)), []
+    for module, names in table.items():
+        here = [name for name in listed(names) if name.split()[-1] in words or not re.search(r"\w", name) and name.replace("◌", "") in text]
+        if here:
+            lines.append(f"use Rattle.{module}.{{{', '.join(here)}}}\n")
+    lines += ["use Rattle.rmp_wire.specs.Msg as msg\n"] * ("msg." in text)
+    return "".join(lines)
+
+
+# ---- what holds of parts
+
+
+def after_held(part: Part, value: str) -> str:
+    """What a term begins with where a part's value was held, by a variant or a field: a number with a sign is the same then."""
+    return f"rw (to_z-of_z {SIGNED[part.kind]} {value} (search rules)) " if part.kind in SIGNED else ""
+
+
+def held_in(part: Optional[Part]) -> list[Part]:
+    """The values of a variant."""
+    return list(part.held or [part]) if part else []
+
+
+def named_in(part: Optional[Part]) -> list[str]:
+    """What the values of a variant are called in patterns."""
+    count = len(held_in(part))
+    return ["a"] if count == 1 else [f"a{at}" for at in range(count)]
+
+
+def inside(part: Optional[Part], value: str = "a") -> list[str]:
+    """The values of a variant, of its content."""
+    count = len(held_in(part))
+    return [value] if count == 1 else [f"{value}.{at}" for at in range(count)]
+
+
+def called(of: str, name: str) -> str:
+    """A term over the value a, with another name for it."""
+    return put_in(of, {"a": name})
+
+
+def product(terms: list[str], nothing: str) -> str:
+    """What holds of each of some values."""
+    return nothing if not terms else terms[0] if len(terms) == 1 else " × ".join(f"({term})" for term in terms)
+
+
+def each(terms: list[str], nothing: str = "tt") -> str:
+    """The proof that it does."""
+    return nothing if not terms else terms[0] if len(terms) == 1 else f"({', '.join(terms)})"
+
+
+def places_of(name: str, count: int) -> list[str]:
+    """The parts of such a proof."""
+    return [name] if count == 1 else [f"{name}.{at}" for at in range(count)]
+
+
+def is_option(part: Part) -> bool:
+    return isinstance(part, Again) and part.form == "option"
+
+
+def term_at(level: Level, part: Part, kind: str) -> str:
+    """The type of a part with this in place of the type again."""
+    return re.sub(rf"\b{level.name}\b", kind, part.term)
+
+
+def is_mapped(part: Part) -> bool:
+    """Whether what it is written as is told by a path from what its mapped values are."""
+    return isinstance(part, Again) and bool(part.mapped)
+
+
+def is_map(part: Part) -> bool:
+    return isinstance(part, Again) and part.keys is not None
+
+
+def data_from(part: Part, value: str) -> str:
+    """What a part is written as, over the type's own data."""
+    return (part.own if isinstance(part, Again) else part.data).format(a=value)
+
+
+def reading(level: Level, part: Part) -> str:
+    """What a part is read from, by its value."""
+    return f"(λ (k : Msg) (x : {part.term}). {part.reads.format(reads=f'Is{level.name}', k='k', a='x')})"
+
+
+def same_of(part: Part) -> str:
+    """That two values have the same content."""
+    return f"(λ (x y : {part.term}). {part.same_as('x', 'y')})"
+
+
+def wider(part: Part, value: str, by: tuple[str, str, str]) -> str:
+    """What one reading of a part says by another: each message that the type is read from in one way is one in the other."""
+    if not isinstance(part, Again):
+        return "(λ m h. h)"
+    return f"(λ m h. {put_in(part.wider, dict(zip('PQf', by), a=value))})"
+
+
+# ---- definitions
+
+
+def cases_of(part: Part, name: str) -> list[tuple[str, str, str]]:
+    """How a value of this name is told apart where a level is mapped, with that P holds of its parts, and what is known of it on the way."""
+    if isinstance(part, Again):
+        return [tuple(called(term, name) for term in case) for case in part.patterns]
+    return [(name, "", part.fits.format(a=name))]
+
+
+def cases(part: Optional[Part]) -> Iterator[list[str]]:
+    """How a variant's values are told apart where a level is mapped."""
+    for case in itertools.product(*(cases_of(held, name) for held, name in zip(held_in(part), named_in(part)))):
+        yield [value for value, *_ in case]
+
+
+def is_apart(part: Optional[Part]) -> bool:
+    """Whether what a variant is written as, by its values, is told by a lemma: that of an option, or a map."""
+    return any(is_option(held) or is_mapped(held) for held in held_in(part))
+
+
+def map_order(part: Again) -> Keys:
+    """The order of a map's keys."""
+    return ORDERS[part.keys.kind]
+
+
+def has_map(part: Optional[Part]) -> bool:
+    """Whether a variant holds a map, or what is written as one is."""
+    return any(is_mapped(held) for held in held_in(part))
+
+
+def at_value(level: Level, shape: Shape, part: Optional[Part], values: list[str]) -> str:
+    """That a variant is written so, which holds a map."""
+    return f"{level.low}_at_{shape.name} {' '.join(values)}" if has_map(part) else ""
+
+
+def inductive(level: Level, kids: str, hold: str, through: str) -> list[tuple[str, str]]:
+    """The same, by what its parts are and the lines of two lemmas on them."""
+    name, low = level.name, level.low
+    return [("", f"""
+-- ---- induction
+
+-- P holds of the parts
+abbrev pub {name}Parts : ({name} → Type 0) → {name}-F {name} → Type 0
+{kids}
+{low}_parts_hold : {{B : Type 0}} (P : {name} → Type 0) (first : B → {name}) → ((b : B) → P (first b)) → (y : {name}-F B) → {name}Parts P (map-{name} B {name} first y)
+{hold}
+-- what holds of a value where it holds of its parts holds of each value
+pub {low}_induction : (P : {name} → Type 0) → ((v : {name}) → {name}Parts P (out-{name} v) → P v) → (v : {name}) → P v
+{low}_induction P step =
+    ind-{name} P (λ x y same. step (roll-{name} x) (subst ({name}Parts P) (same ∙ sym (out-roll-{name} x)) ({low}_parts_hold P (λ e. e.0) (λ e. e.1) y)))
+"""), ("F", f"""
+{low}_through : (X : Type 0) (at : X → {name}) (k : {name} → Type 0) (x : {name}-F X)
+    → {low}_layer_fits X at (λ p. k (at p)) x ≡ {low}_layer_fits {name} (λ y. y) k (map-{name} X {name} at x)
+{through}
+"""), *known_of(level)]
+
+
+def known_of(level: Level) -> list[tuple[str, str]]:
+    """What is known of a value is known of its parts, and what it is written as is one level of it."""
+    name, low = level.name, level.low
+    return [("F", f"""
+abbrev pub {name}Fits : {name}-F {name} → Type 0
+{name}Fits x = {low}_layer_fits {name} (λ y. y) {low}_fits x
+
+{low}_fits_is : (v : {name}) → {low}_fits v ≡ {name}Fits (out-{name} v)
+{low}_fits_is v = ap {low}_fits (sym (roll-out-{name} v)) ∙ rec-roll-{name} (Type 0) {low}_layer_fits {low}_through (out-{name} v)
+
+pub {low}_fits_out : (v : {name}) → {low}_fits v → {name}Fits (out-{name} v)
+{low}_fits_out v h = subst (λ T. T) ({low}_fits_is v) h
+
+pub {low}_fits_in : (v : {name}) (x : {name}-F {name}) → out-{name} v ≡ x → {name}Fits x → {low}_fits v
+{low}_fits_in v x e h = subst (λ T. T) (sym ({low}_fits_is v)) (subst {name}Fits (sym e) h)
+"""), ("D", f"""
+pub {low}_is : (v : {name}) → {low}_data v ≡ {low}_level (map-{name} {name} (Option Data) {low}_data (out-{name} v))
+{low}_is v = fold_out-{name} (Option Data) {low}_level v
+
+pub {low}_is_at : (v : {name}) (x : {name}-F {name}) → out-{name} v ≡ x → {low}_data v ≡ {low}_level (map-{name} {name} (Option Data) {low}_data x)
+{low}_is_at v x e = {low}_is v ∙ ap (λ z. {low}_level (map-{name} {name} (Option Data) {low}_data z)) e
+""")]
+
+
+# The lemmas that a leaf is read as it was written.
+LEAF_ROWS = "byte_row truth_row float32_row float64_row char_row string_row buffer_row".split()
+LEAF_ROWS += [f"{sign}_row_{bits}" for sign in ("signed", "unsigned") for bits in (8, 16, 32, 64)]
+# And that none is written as nil.
+LEAF_ROWS += dict.fromkeys(part.other.split()[0] for part in LEAVES.values())
+
+
+def has_truth(of: Declared) -> bool:
+    """Whether a default of the type is true or false."""
+    return any(field.default and field.kind == "bool" for shape in of.shapes() for field in shape.fields)
+
+
+# Where the words of the libraries come from.
+LIBRARY = {
+    "std.proofs.Common": "◌≡◌ ◌∙◌ refl sym ap subst ℕ zero suc List [] ◌∷◌ map All Option None Some String Box",
+    "std.specs.Char": "IsScalar",
+    "std.specs.Cmp.Lexicographic": "slice_cmp",
+    "std.specs.Int": "w8 w16 w32 w64 w128",
+    "std.specs.List": "AllByRecursion",
+    "std.specs.Cmp": "bool_cmp_total",
+    "std.specs.Ordering": "nat_cmp bool_cmp",
+    "std.specs.String": "string_cmp string_cmp_total",
+    "std.proofs.lemmas.Cmp": "nat_cmp_total",
+    "std.proofs.lemmas.Map.Lookups": "exact_unsigned exact_bytes",
+    **{f"std.specs.declared.collections.{kind}": kind for kind in ("BTreeMap", "BTreeSet", "VecDeque")},
+    "std.specs.Prelude": "◌≢◌ ◌<◌ ◌^◌ ⊤ codes Vec Bool ℤ pos negsuc FitsSigned IsUtf8 IsSome IfSome string_bytes",
+    "std.specs.declared.alloc.Global": "Global",
+    "rmp_wire.specs.Msg": "Msg nil",
+    "rmp_wire.specs.Types": "buffer_bytes",
+    **{f"rmp_wire.specs.declared.types.{kind}": kind for kind in ("ByteBuf", "F32Bits", "F64Bits")},
+    "rmp_decode.specs.Buffers": "IsBuffer",
+    "rmp_decode.specs.Wide": "IsUnsigned128 IsSigned128",
+    "rmp_decode.specs.Fields": "OfFields Field Absent NoField",
+    "rmp_decode.specs.Law": "Readable",
+    "rmp_decode.specs.Maps": "ReadsEntries",
+    "rmp_decode.specs.Options": "IsOption",
+    "rmp_decode.specs.Read": "IsUnsigned IsSigned IsRaw IsChar",
+    "rmp_decode.specs.Rows": "ReadsEach AndThen NoMore",
+    "rmp_decode.specs.Seq": "OfRow",
+    "rmp_decode.specs.Variants": "OfVariant Case NoCase Bare Content",
+    "rmp_encode.specs.Data": "Data byte whole unsigned128 signed128 truth float32 float64 char text bytes unit_variant",
+    "rmp_encode.specs.Trees": "tree_of tuple_of slice_of sequence_of option_of mapping_of in_turn newtype_variant_of tuple_variant_of struct_variant_of structure_of",
+    "rmp_encode.specs.declared.settings.Settings": "Settings",
+    "rmp_round_trip.specs.LeafRounds": " ".join(LEAF_ROWS),
+    "rmp_round_trip.specs.MapRounds": "map_row pairs_row",
+    "rmp_round_trip.specs.OnlyFields": "AtPlace AnyContent content_only content_row content_fields variant_both fields_both field_only last_field",
+    "rmp_round_trip.specs.OnlyLeaves": "truth_only byte_only unsigned_only signed_only unsigned128_only signed128_only float32_only float64_only"
+    " char_only string_only buffer_only",
+    "rmp_round_trip.specs.OnlyMaps": "map_only",
+    "rmp_round_trip.specs.OnlyRows": "row_both inside_only item_only last_only list_only option_only lowers_then",
+    "rmp_round_trip.specs.RoundTrip": "Alike AlikeEntries AlikeOption LowersTo Only",
+    "rmp_round_trip.specs.Rounds": "slice_some each_some each_row slice_row slice_other sequence_some sequence_row sequence_other option_some option_row tuple_row tuple_other rows_none rows_cons",
+    "rmp_round_trip.specs.StructRounds": "tuple_all tuple_variant_all struct_variant_all structure_all structure_row structure_other fields_none fields_cons",
+    "rmp_round_trip.specs.VariantRounds": "newtype_variant_some bare_row newtype_variant_row tuple_variant_row struct_variant_row bare_other"
+    " newtype_variant_other tuple_variant_other struct_variant_other",
+    "rmp_round_trip.specs.WideRounds": "unsigned128_row signed128_row",
+    "rmp_recursive.specs.Parts": "Row Boxed InSteps row_as row_in option_as option_in variant_as variant_in of_row_as of_row_in then_as then_in"
+    " each_holds through all_by each_from option_from",
+    "rmp_recursive.specs.Fields": "fields_as fields_in field_as field_in",
+    "rmp_recursive.specs.Given": "alike_as alike_option_as entries_as",
+    "rmp_recursive.specs.Shapes": "each_through each_mapped each_both option_both all_known option_known each_as",
+    "rmp_recursive.specs.Leaves": "maps_alike_by option_alike_by",
+    "rmp_recursive.specs.MapRounds": "mapping_data maps_alike exact_truth",
+    "rmp_recursive.specs.Maps": "EntriesFit map_as map_in entries_hold entries_through entries_from turns_mapped",
+    "rmp_recursive.specs.Rounds": "each_data option_data lowers_as map_alike option_alike",
+}
+
+
+# Words that proofs bring in beside those, or that have a meaning of their own.
+MORE = set("Values Gathers StructRun Result Slot Msgs IsOpen IsMapOpen IsStructOpen TakesPlace ReadsPairs Collects Unit Prim".split()) | QUOTED
+
+
+def is_taken(name: str) -> bool:
+    """Whether a type's name is another word in its files."""
+    return name in MORE or any(name in names.split() for names in LIBRARY.values())
+
+
+def tables(level: Level) -> dict[str, str]:
+    """Where the words of its files come from."""
+    name, low, crate, declared = level.name, level.low, level.crate, level.declared
+    levels = "names level data layer_fits fits made out variant read induction fits_out fits_in is is_at own is_own".split()
+    words = [f"{name}Case", f"{name}In", f"Is{name}", f"{name}Parts", f"{name}Fits", f"{name}Fields", f"{name}Read"]
+    words += [f"{of.name}From{at}" for of in (level, *level.contents()) for at in range(len(of.fields) + 1)]
+    words += [word for of in level.contents() for word in (f"{of.name}Fields", f"{of.name}Read", f"{of.low}_names")]
+    words += [f"{name}Row{shape.name}" for shape, _ in level.rows()]
+    words += [f"{low}_at_{shape.name}" for shape, part in level.variants if is_apart(part)]
+    return {
+        **LIBRARY,
+        "std.proofs.Common": LIBRARY["std.proofs.Common"] + " true false" * has_truth(level.of),
+        declared: level.brought("{name} out-{name}"),
+        f"{declared.rpartition('.')[0]}.TheConstants": " ".join(sorted(level.of.constants())),
+        f"{declared}.TheFolds": level.brought("ind-{name} fold-{name} rec-{name} map-{name} rec-roll-{name} fold_out-{name}"),
+        f"{declared}.TheOpen": level.brought("{name}-F"),
+        f"{declared}.TheViews": level.brought("roll-{name} out-roll-{name} roll-out-{name}"),
+        f"{crate}.specs.{name}Levels": " ".join([*words, *(f"{low}_{word}" for word in levels)]),
+        **{f"{crate}.specs.{part.kind}Leaf": part.leaf_words() for part in level.own_leaves()},
+        **{part.declared[1]: part.kind for part in level.own_leaves()},
+        **homes_of(level.given, level.types),
+    }
+
+
+def file_of(level: Level, own: str, about: str, sections: list[tuple[str, str]], known: Optional[dict[str, str]] = None) -> str:
+    """A file's text: what it is about, what it brings in, and its items, in sections; these are known from other files."""
+    table = {module: names for module, names in tables(level).items() if module != f"{level.crate}.specs.{own}"}
+    text = put_together(level, sections, known or {})
+    return f"-- {about}\n{brought_in(text, table)}{text}"

@@ -1,0 +1,26 @@
+"""Where the words of what is written come from: the tables of words.txt."""
+from __future__ import annotations
+
+import os
+
+
+def read_tables() -> dict[str, dict[str, str]]:
+    """The tables, by their names: of each module the words."""
+    found: dict[str, dict[str, str]] = {}
+    table: dict[str, str] = {}
+    with open(os.path.join(os.path.dirname(__file__), "words.txt"), encoding="utf-8") as file:
+        for line in filter(None, (line.partition("#")[0].strip() for line in file)):
+            module, colon, words = line.partition(": ")
+            if colon:
+                table[module] = f"{table.get(module, '')} {words}".strip()
+            else:
+                table = found.setdefault(line.strip("[]"), {})
+    return found
+
+
+TABLES = read_tables()
+
+
+def joined(*tables: dict[str, str]) -> dict[str, str]:
+    """One table of these."""
+    return {module: " ".join(table[module] for table in tables if module in table) for module in {key: None for table in tables for key in table}}

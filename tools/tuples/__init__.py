@@ -1,0 +1,1 @@
+"""Writes what is there once for each number of elements: tools/tuples.py."""

@@ -1,0 +1,86 @@
+"""The laws of tuples: `RoundTrip`, `NeverNil`, `ContentOrd` and `EndsInside`, for tuples.py."""
+from __future__ import annotations
+
+from shared.terms import KINDS, all_of, any_of, both_of, bounded, in_a_row, known, lent, linked, list_of, tuple_of
+
+ROUNDS_HEAD = """//! Tuples. Written by tools/tuples.py.
+ghost use Rattle.std.specs.Prelude.{◌∷◌, ◌||◌, [], true};
+ghost use Rattle.rmp_encode.specs.Trees.{tuple_of};
+ghost use Rattle.rmp_round_trip.specs.AlikeOrder.{then_tied};
+ghost use Rattle.rmp_round_trip.specs.OnlyRows.{item_only, last_only, lowers_then, row_both};
+ghost use Rattle.rmp_round_trip.specs.RoundTrip.{Only};
+ghost use Rattle.rmp_round_trip.specs.Rounds.{rows_none, rows_cons, parts_none, parts_cons, tuple_some, tuple_row, tuple_other, first_lent, second_lent};
+
+use crate::round_trip::{ContentOrd, NeverNil, RoundTrip};
+use rmp_decode::Deserialize;
+use rmp_encode::Serialize;
+use rmp_wire::ReadSlice;
+"""
+
+
+def rows(facts: list[tuple[str, str]]) -> str:
+    """What is read of the items, by what is read of each and why."""
+    return linked("rows_cons s _ _", [f"{reads} _ {why}" for reads, why in facts], "(rows_none s)")
+
+
+def rounds(count: int) -> str:
+    kinds = KINDS[:count]
+    borrows = [f"{kind}.borrows" for kind in kinds]
+    places = list(zip(kinds, range(count), known("fits", count), lent(borrows, "lent")))
+    same = " × ".join(f"{kind}.same v.{i} w.{i}" for kind, i, *_ in places)
+    stated = linked("parts_cons _ _", [f"({kind}.has_data human v.{i})" for kind, i, *_ in places], "parts_none")
+    read = rows([(f"(λ m. {kind}.reads s.human R.lends m v.{i})", f"({kind}.round {proof} s v.{i} {fits})") for kind, i, fits, proof in places])
+    alone = rows([(f"(λ m. Only ({kind}.reads s.human R.lends) {kind}.same m v.{i})", f"({kind}.only s v.{i} {fits})") for kind, i, fits, _ in places])
+    both = both_of([(f"({kind}.reads s.human R.lends)", f"{kind}.same", f"v.{i}", f"w.{i}") for kind, i, *_ in places],
+                   "row_both _ _ _ m q r", "item_only", "last_only")
+    same_parts = list(zip(kinds, range(count), known("h", count)))
+    alike = in_a_row(f"{kind}.alike human v.{i} w.{i} {h} i" for kind, i, h in same_parts)
+    equal = ""
+    for kind, i, h in same_parts:
+        one = f"({kind}.equal v.{i} w.{i} {h})"
+        equal = f"(then_tied _ _ {equal} {one})" if equal else one
+    of = tuple_of(kinds)
+    only = f"(λ m. (w : _) → ⟦<{of} as Deserialize<'de, R>>⟧.reads s.human R.lends m w → {same})"
+    return f"""
+impl<'de, R: ReadSlice<'de>, {bounded(kinds, "RoundTrip<'de, R>")}> RoundTrip<'de, R> for {of} {{
+    ghost borrows = {{ {any_of(borrows)} }};
+
+    ghost has_data = {{ λ human v. tuple_some _ {stated} }};
+
+    ghost round = {{ λ lent s v fits. tuple_row s _ _ {read} }};
+
+    ghost same = {{ λ v w. {same} }};
+
+    ghost alike = {{ λ human v w h i. tuple_of ({alike}) }};
+
+    ghost only = {{ λ s v fits. lowers_then s _ _ {only} (tuple_row s _ _ {alone}) (λ m q w r. {both}) }};
+}}
+
+impl<{bounded(kinds, "Serialize")}> NeverNil for {of} {{
+    ghost never_nil = {{ λ s v. tuple_other s ({in_a_row(f"{kind}.data_of v.{i} s.human" for kind, i, *_ in places)}) }};
+}}
+
+impl<'de, R: ReadSlice<'de>, {bounded(kinds, "ContentOrd<'de, R>")}> ContentOrd<'de, R> for {of} {{
+    ghost equal = {{ λ v w h. {equal} }};
+}}
+"""
+
+
+ENDS_HEAD = """//! Tuples. Written by tools/tuples.py.
+ghost use Rattle.std.specs.Prelude.{◌∷◌, []};
+ghost use Rattle.rmp_decode.specs.Refusing.{part_of};
+ghost use Rattle.rmp_ends.specs.RowEnds.{tuple_inside};
+
+use crate::ends_inside::EndsInside;
+use rmp_wire::ReadSlice;
+"""
+
+
+def ends(count: int) -> str:
+    kinds = KINDS[:count]
+    parts = list_of([f"part_of {kind}.reads {kind}.refuses" for kind in kinds])
+    return f"""
+impl<'de, R: ReadSlice<'de>, {bounded(kinds, "EndsInside<'de, R>")}> EndsInside<'de, R> for {tuple_of(kinds)} {{
+    ghost ends_inside = {{ tuple_inside ({parts}) {all_of([f"{kind}.ends_inside" for kind in kinds])} }};
+}}
+"""

@@ -1,0 +1,168 @@
+"""How tuples and fields are read: `Deserialize` for tuples, which are read as the fields of a struct that is a list, and `read_fields_2` to
+`read_fields_12`, for tuples.py.
+
+The contract of each of the last says what each field is read from, in one list, and names no type of more fields: so a struct that calls it is
+proved without what is said of nested tuples.
+"""
+from __future__ import annotations
+
+from derive.flat.terms import nested, place_of
+from derive.table.types import LEAST_FLAT, MOST_FLAT
+from shared.terms import KINDS, Answers, around, bounded, chained, in_a_row, list_of, tuple_of
+
+TUPLES_HEAD = """//! Tuples, from lists of as many elements, or bytes of as many. Written by tools/tuples.py.
+ghost use Rattle.std.specs.Prelude.{◌||◌, None, [], ◌∷◌};
+ghost use Rattle.rmp_decode.specs.Refusing.{part_of, RefusesTuple};
+ghost use Rattle.rmp_decode.specs.Rows.{AndThen, NoMore};
+ghost use Rattle.rmp_decode.specs.Seq.{OfRow};
+
+use crate::de::Deserialize;
+use crate::deserializer::Deserializer;
+use crate::error::Error;
+use rmp_wire::ReadSlice;
+use rmp_wire::config::SerializerConfig;
+"""
+USES = {
+    "std.proofs.Common": "◌||◌",
+    "rmp_decode.proofs.Laws": "lawful_ok lawful_err",
+    "rmp_decode.proofs.Tuples": "row_as each_field no_field field_each field_none or_last",
+}
+
+
+def fields_of(parts: list[str], end: str = "()") -> str:
+    """The elements as the fields of a struct: a pair of the first one and the others, and of more than four a tuple of the first four and the others.
+
+    The last four are nested pairs, unlike those of a derived struct: so reads of small tuples take fewer instructions.
+    """
+    if len(parts) > 4:
+        return f"({', '.join(parts[:4])}, {fields_of(parts[4:], end)})"
+    return f"({parts[0]}, {fields_of(parts[1:], end)})" if parts else end
+
+
+def one_of(flags: list[str]) -> str:
+    """Whether one of them is so."""
+    first, *rest = flags
+    return f"{first} || ({one_of(rest)})" if len(rest) > 1 else " || ".join(flags)
+
+
+def tuples(count: int) -> str:
+    kinds = KINDS[:count]
+    names = [kind.lower() for kind in kinds]
+    of = tuple_of(kinds)
+    reads = chained([f"AndThen (λ k. {kind}.reads human lends k v.{i})" for i, kind in enumerate(kinds)], "NoMore")
+    return f"""
+impl<'de, R: ReadSlice<'de>, {bounded(kinds, "Deserialize<'de, R>")}> Deserialize<'de, R> for {of} {{
+    ghost reads = {{ λ human lends m v. OfRow ({reads}) m }};
+
+    ghost absent = {{ None }};
+
+    ghost refuses = {{ RefusesTuple ({in_a_row(f"part_of {kind}.reads {kind}.refuses" for kind in kinds)}) }};
+
+    ghost takes_memory = {{ λ lends. {one_of([f"{kind}.takes_memory lends" for kind in kinds])} }};
+
+    #[inline(always)]
+    fn deserialize<C: SerializerConfig>(de: &mut Deserializer<R, C>) -> Result<{of}, Error> {{
+        match de.tuple_parts({count}) {{
+            Ok({fields_of(names)}) => Ok({tuple_of(names)}),
+            Err(e) => Err(e),
+        }}
+    }}
+
+    fn missing() -> Option<{of}> {{
+        None
+    }}
+}}
+"""
+
+
+def no_memory(kinds: str) -> str:
+    """None of them takes memory, and so the fields don't, of which there are no more after the last."""
+    *front, last = [f"g.{kind}.Deserialize.takes_memory y" for kind in kinds]
+    return f"or_last (λ z. {one_of([*front, 'z'])}) ({last})"
+
+
+def answers(count: int) -> dict[str, Answers]:
+    fields = fields_of([f"r.0.{i}" for i in range(count)], "tt")
+    back = around(count, "field_each _ _ _ _", "field_none")
+    terms = {
+        "returns-in-Ok-clause-law": "lawful_ok g.R.Source _ _ _ _ _ _"
+            f" (row_as _ _ {around(count, 'each_field _ _ _ _', 'no_field')}) c.in-Ok.ensures.law",
+        "returns-in-Err-clause-law": f"\n    lawful_err g.R.Source _ _ _ _ _ (λ m r. ({fields}, row_as _ _ {back} m r.1)) c.in-Err.ensures.law",
+        "returns-in-Err-clause-memory": f"λ n. let y = g.R.ReadSlice.lends in c.in-Err.ensures.memory ({no_memory(KINDS[:count])} n)",
+    }
+    return {f"Tuple{count}Deserialize/deserialize": Answers(USES, terms)}
+
+
+COUNTS = range(LEAST_FLAT, MOST_FLAT + 1)
+
+
+def uses_of_fields() -> str:
+    names = [f"reads_{count}" for count in COUNTS]
+    return "".join(f"ghost use Rattle.rmp_decode.specs.ReadFields.{{{', '.join(names[at : at + 8])}}};\n" for at in range(0, len(names), 8))
+
+
+FIELDS_HEAD = f"""//! Reads of 2 to 12 fields, whose contracts name each field's part in one list. Written by tools/tuples.py.
+ghost use Rattle.std.specs.Option.{{is_none}};
+ghost use Rattle.std.specs.Prelude.{{◌≡◌, ◌∷◌, [], length}};
+ghost use Rattle.rmp_decode.specs.FieldRefusing.{{RefusesFields}};
+ghost use Rattle.rmp_decode.specs.Fields.{{OfFields}};
+ghost use Rattle.rmp_decode.specs.Law.{{Lawful}};
+ghost use Rattle.rmp_decode.specs.Names.{{bytes_of}};
+ghost use Rattle.rmp_decode.specs.Refusing.{{RefusesAs, part_of}};
+{uses_of_fields()}
+use crate::de::Deserialize;
+use crate::deserializer::Deserializer;
+use crate::error::Error;
+use rmp_wire::ReadSlice;
+use rmp_wire::config::SerializerConfig;
+"""
+FIELDS_SPECS = """-- Which trees of so many fields, each there or missing, are read as which values, by those of the fields' types. Written by tools/tuples.py.
+use Rattle.std.specs.Prelude.{Bool, List, Option}
+use Rattle.rmp_wire.specs.Msg.{Msg}
+use Rattle.rmp_decode.specs.Fields.{Field, Absent, NoField}
+"""
+
+
+def value(kinds: list[str]) -> str:
+    """The type of the values: tuples of four and the others, and pairs for the last ones."""
+    if not kinds:
+        return "Unit {0}"
+    size = 4 if len(kinds) >= 4 else 1
+    return f"({' × '.join(kinds[:size])} × {value(kinds[size:])})"
+
+
+def reads_fields(count: int) -> str:
+    """The definition that the contract of so many fields names."""
+    places = range(count)
+    kinds = [f"A{at}" for at in places]
+    given = " → ".join(f"(Bool → Bool → Msg → {kind} → Type 0) → Option {kind}" for kind in kinds)
+    words = " ".join(f"r{at} a{at}" for at in places)
+    fields = chained([f"Field (λ j. r{at} human lends j v{place_of(at, count)}) (Absent a{at} v{place_of(at, count)})" for at in places], "NoField")
+    return f"""
+abbrev pub reads_{count} : {{{' '.join(kinds)} : Type 0}} → {given} → Bool → Bool → List (Option Msg) → {value(kinds)} → Type 0
+reads_{count} {words} human lends fs v = {fields} fs
+"""
+
+
+def read_fields(count: int) -> str:
+    kinds = [f"P{at}" for at in range(count)]
+    given = " ".join(f"{kind}.reads {kind}.absent" for kind in kinds)
+    parts = list_of([f"part_of {kind}.reads {kind}.refuses" for kind in kinds])
+    needed = list_of([f"is_none {kind}.absent" for kind in kinds])
+    return f"""
+/// Reads {count} fields by their names, as `Deserializer::deserialize_fields` does.
+///
+/// # Errors
+/// Those of `Deserializer::deserialize_fields`.
+#[inline(always)]
+pub fn read_fields_{count}<'de, R: ReadSlice<'de>, C: SerializerConfig, {bounded(kinds, "Deserialize<'de, R>")}>(
+    de: &mut Deserializer<R, C>,
+    names: &[&str],
+) -> Result<{nested(kinds)}, Error>
+    requires count {{ length names.now ≡ {count} }}
+    ensures law {{ Lawful R.Source (λ m v. OfFields (bytes_of names.now) (λ fs. reads_{count} {given} C.human R.lends fs v) m) de.old de.new result }}
+    ensures refused {{ RefusesAs R.Source C.human R.lends (RefusesFields (bytes_of names.now) ({needed}) ({parts})) de.old de.new result }}
+{{
+    de.deserialize_fields::<{nested(kinds)}>(names)
+}}
+"""

@@ -1,0 +1,113 @@
+"""How tuples are written: the elements that one call writes, `One` to `Eight`, and `Serialize` for tuples, for tuples.py."""
+from __future__ import annotations
+
+from shared import halves
+from shared.halves import FIELDS, NAMES, kinds
+from shared.terms import bounded, bracketed, in_a_row, tuple_of
+
+LETTERS = "abcdefgh"
+
+
+def rule(count: int) -> str:
+    """The rule of `row!` for so many."""
+    given = ", ".join(f"${letter}:expr" for letter in LETTERS[:count])
+    fields = ", ".join(f"{field}: ${letter}" for field, letter in zip(FIELDS, LETTERS[:count]))
+    return f"    ({given}) => {{\n        {NAMES[count - 1]} {{ {fields} }}\n    }};\n"
+
+
+RULES = "".join(rule(n + 1) for n in range(len(NAMES) - 1))
+ELEMENTS_HEAD = f"""//! One to eight elements of several types. Written by tools/tuples.py.
+ghost use Rattle.std.specs.Prelude.{{◌∷◌, [], refl}};
+ghost use Rattle.rmp_encode.specs.Markers.{{value_of}};
+ghost use Rattle.rmp_encode.specs.Sizes.{{one_of}};
+
+use crate::elements::Elements;
+use crate::elements::rows::{{Row, add_then, write_fields_then, write_then}};
+use crate::error::Error;
+use crate::ser::Serialize;
+use crate::serializer::Serializer;
+use crate::tuple::Tuple;
+use rmp_wire::Sink;
+use rmp_wire::config::SerializerConfig;
+
+// These references as elements.
+macro_rules! row {{
+{RULES}}}
+"""
+WORDS = ["One element", "Two elements", "Three elements", "Four elements", "Five elements", "Six elements", "Seven elements", "Eight elements"]
+
+
+def bodies(count: int) -> tuple[str, str, str]:
+    """How so many elements are written: without names, with them, and as those of a tuple. The first is written before the others."""
+    if count == 1:
+        return "self.first.serialize(se)", "se.put_field(names[0], self.first)", "tup.serialize_element(self.first)"
+    rest = f"let rest = row!({', '.join(f'self.{field}' for field in FIELDS[1:count])});\n"
+    return tuple(rest + f"{call}(self.first, &rest, {given})" for call, given in (
+        ("write_then", "se"), ("write_fields_then", "names, se"), ("add_then", "tup")))
+
+
+def elements(count: int) -> str:
+    name, names = NAMES[count - 1], kinds(count)
+    fields = "\n".join(f"    pub {field}: &'r {kind}," for field, kind in zip(FIELDS, names))
+    written, named, added = bodies(count)
+    return f"""
+/// {WORDS[count - 1]}.
+#[derive(Drop)]
+pub struct {name}<'r, {", ".join(names)}> {{
+{fields}
+}}
+{halves.implementation(name, count, written, named)}
+impl<'r, {bounded(names, "Serialize")}> Row for {name}<'r, {", ".join(names)}> {{
+    #[inline(always)]
+    fn add_to<W: Sink, C: SerializerConfig>(&self, tup: &mut Tuple<'_, W, C>) -> Result<(), Error> {{
+        {added}
+    }}
+}}
+"""
+
+
+TUPLES_HEAD = """//! Tuples of one to eight elements. Written by tools/tuples.py.
+//!
+//! In the modes `Normal` and `ForceIterables` writing them takes no memory but by their elements and the sink.
+ghost use Rattle.std.specs.Prelude.{◌∷◌, ◌||◌, []};
+ghost use Rattle.rmp_encode.specs.Refusals.{OfParts};
+ghost use Rattle.rmp_encode.specs.Sizes.{one_of};
+ghost use Rattle.rmp_encode.specs.Trees.{forces_all, tuple_of};
+
+use crate::elements::{Both, Eight, Five, Four, One, Seven, Six, Three};
+use crate::error::Error;
+use crate::ser::Serialize;
+use crate::serializer::Serializer;
+use crate::tuple::put_row;
+use rmp_wire::Sink;
+use rmp_wire::config::SerializerConfig;
+"""
+
+
+def tuples(count: int) -> str:
+    names = kinds(count)
+    return f"""
+impl<{bounded(names, "Serialize")}> Serialize for {tuple_of(names)} {{
+    ghost data_of = {{ λ v human. tuple_of ({in_a_row(f"{k}.data_of v.{i} human" for i, k in enumerate(names))}) }};
+
+    ghost is_value = {{ λ v. {" × ".join(f"{k}.is_value v.{i}" for i, k in enumerate(names))} }};
+
+    ghost takes_memory = {{ λ s. forces_all s.bytes || one_of {bracketed([f"{k}.takes_memory s" for k in names])} }};
+
+    ghost refuses = {{ λ v. OfParts ⊥ {bracketed([f"{k}.refuses v.{i}" for i, k in enumerate(names)])} }};
+
+    fn serialize<W: Sink, C: SerializerConfig>(
+        &self,
+        se: &mut Serializer<W, C>,
+    ) -> Result<(), Error> {{
+        let elements = {NAMES[count - 1]} {{ {", ".join(f"{field}: &self.{i}" for i, field in enumerate(FIELDS[:count]))} }};
+        put_row(se, {count}, &elements)
+    }}
+
+    #[tactic(auto, using(crate::proofs::Packing::tuple_no_byte))]
+    #[inline(always)]
+    fn as_u8(&self, _human: bool) -> Option<u8> {{
+        None
+    }}
+}}
+"""
