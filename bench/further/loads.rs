@@ -1,5 +1,5 @@
-//! Loads that are wide, mixed or deep: numbers of all widths, many floats, and lists in lists that are skipped. And a message in pieces, and a
-//! walk over one of any kind.
+//! Loads that are wide, mixed or deep: numbers of all widths, many floats, and lists in lists that are skipped. And a message in pieces, a
+//! walk over one of any kind, one message a call, and types that contain themselves.
 //! The port and the original are measured by this one file.
 
 #[path = "../measure.rs"]
@@ -14,7 +14,7 @@ mod parts;
 use measure::{Answer, Load, Random, Runs, number_of_width};
 use named::call_over;
 pub use named::{Calls, OfBytes};
-use parts::{Part, spell, spelled};
+use parts::{Form, Part, mixed, spell, spelled, structure, text};
 
 const RUNS: Runs = Runs { reps: 20, runs: 7 };
 
@@ -152,12 +152,113 @@ fn in_pieces(made: &mut Vec<Load<Calls>>) {
     ));
 }
 
+/// Lists of lists of texts, that are walked over.
+fn texts(made: &mut Vec<Load<Calls>>) {
+    let of_texts = many(1000, |r| Part::Text("x".repeat(r.below(20) as usize)));
+    let lengths = of_texts.iter().map(|text| match text {
+        Part::Text(text) => text.len() as u64,
+        _ => 0,
+    });
+    let sum = Answer::Sum(lengths.sum());
+    let rows: Vec<Part> = of_texts
+        .chunks(10)
+        .map(|row| Part::List(row.to_vec()))
+        .collect();
+    made.push(call_over(
+        "walk over texts, a node".into(),
+        "pieces_walk_texts".into(),
+        1101,
+        spelled(&rows),
+        sum,
+    ));
+}
+
+/// Messages that are read and written by a call of their own: so many, one after another.
+fn once(made: &mut Vec<Load<Calls>>) {
+    let ten = |r: &mut Random| Part::Text((0..10).map(|_| char::from(b'a' + r.below(26) as u8)).collect());
+    let row = |r: &mut Random| Part::List((0..3).map(|_| Part::Number(r.below(128))).collect());
+    for (name, kind, items) in [
+        ("a number of five bytes", "number", many(COUNT, wide)),
+        ("a text of ten bytes", "text", many(COUNT, ten)),
+        ("a list of three numbers", "row", many(COUNT, row)),
+    ] {
+        let data = in_a_row(&items);
+        let (read, written) = (Answer::Sum(COUNT as u64), Answer::Bytes(data.len()));
+        for (verb, call, answer) in [("from_slice", "read", read), ("to_vec", "write", written)] {
+            made.push(call_over(
+                format!("{verb}, {name}"),
+                format!("once_{call}_{kind}"),
+                COUNT,
+                data.clone(),
+                answer,
+            ));
+        }
+    }
+}
+
+/// A chain of so many numbers, of lists or of maps.
+fn chain(form: Form, count: usize) -> Part {
+    let random = &mut Random::new();
+    (0..count).fold(Part::Nil, |next, _| {
+        structure(form, &["at", "next"], vec![mixed(random), next])
+    })
+}
+
+/// An expression of this many levels: by turns a sum of two and what is negated.
+fn expression(levels: usize) -> Part {
+    let of = |name: &str, content: Part| Part::Map(vec![(text(name), content)]);
+    match levels {
+        0 => of("Number", Part::Number(1000)),
+        _ if levels % 2 == 0 => of("Negated", expression(levels - 1)),
+        _ => of("Sum", Part::List(vec![expression(levels - 1), expression(levels - 1)])),
+    }
+}
+
+/// How many nodes an expression of this many levels has.
+fn nodes(levels: usize) -> usize {
+    match levels {
+        0 => 1,
+        _ if levels % 2 == 0 => 1 + nodes(levels - 1),
+        _ => 1 + 2 * nodes(levels - 1),
+    }
+}
+
+/// Values of types that contain themselves, for one node.
+fn recursive(made: &mut Vec<Load<Calls>>) {
+    let mut add = |name: &str, count: usize, part: &Part, reads: &str, writes: &str| {
+        let data = in_a_row(std::slice::from_ref(part));
+        let written = Answer::Bytes(data.len());
+        for (verb, call, answer) in [("read", reads, Answer::Sum(1)), ("write", writes, written)] {
+            made.push(call_over(
+                format!("{verb}, {name}"),
+                call.into(),
+                count,
+                data.clone(),
+                answer,
+            ));
+        }
+    };
+    let (lists, maps) = (chain(Form::List, 100), chain(Form::Map, 100));
+    add("a chain of lists", 100, &lists, "chain_read", "chain_write");
+    add("a chain of maps", 100, &maps, "chain_read", "chain_write_named");
+    add(
+        "an expression",
+        nodes(12),
+        &expression(12),
+        "expression_read",
+        "expression_write",
+    );
+}
+
 /// Runs what the arguments name.
 pub fn main(calls: &Calls) {
     let mut made = Vec::new();
     numbers(&mut made);
     deep(&mut made);
     in_pieces(&mut made);
+    texts(&mut made);
+    once(&mut made);
+    recursive(&mut made);
     let nothing = || {
         call_over(
             "refused, c1".into(),

@@ -72,6 +72,38 @@ fn sum_of_rows(value: &Value, before: u64) -> u64 {
     sum
 }
 
+// This and the lengths of the texts of a list of lists.
+fn lengths_of_rows(value: &Value, before: usize) -> usize {
+    let mut sum = before;
+    for row in value.root().parts() {
+        sum = lengths_of(row, sum);
+    }
+    sum
+}
+
+// This and the lengths of a list's texts.
+#[inline(always)]
+fn lengths_of(row: ValueRef<'_>, before: usize) -> usize {
+    let mut sum = before;
+    for part in row.parts() {
+        sum = sum.wrapping_add(part.as_str().map_or(0, str::len));
+    }
+    sum
+}
+
+/// Walks over a list of lists of texts, so many times, and answers the sum of all lengths.
+#[unsafe(no_mangle)]
+pub extern "C" fn pieces_walk_texts(alloc: Global, data: &[u8], reps: u32) -> usize {
+    let Ok(value) = from_slice::<Value>(alloc, data) else {
+        return 0;
+    };
+    let mut sum: usize = 0;
+    for _ in 0..reps {
+        sum = lengths_of_rows(&value, sum);
+    }
+    sum
+}
+
 /// Walks over a list of lists of numbers, so many times, and answers the sum of all numbers.
 #[unsafe(no_mangle)]
 pub extern "C" fn pieces_walk(alloc: Global, data: &[u8], reps: u32) -> usize {

@@ -28,6 +28,18 @@ fn main() {
         ("pieces_of_1460", in_pieces::<1460>),
         ("pieces_of_64", in_pieces::<64>),
         ("pieces_walk", walks),
+        ("pieces_walk_texts", walks_texts),
+        ("once_read_number", |data, reps| once_read::<u32>(data, 5, reps)),
+        ("once_write_number", |data, reps| once_write::<u32>(data, 5, reps)),
+        ("once_read_text", |data, reps| once_read::<String>(data, 11, reps)),
+        ("once_write_text", |data, reps| once_write::<String>(data, 11, reps)),
+        ("once_read_row", |data, reps| once_read::<Vec<u32>>(data, 4, reps)),
+        ("once_write_row", |data, reps| once_write::<Vec<u32>>(data, 4, reps)),
+        ("chain_read", |data, reps| once_read::<Chain>(data, data.len(), reps)),
+        ("chain_write", |data, reps| once_write::<Chain>(data, data.len(), reps)),
+        ("chain_write_named", chain_write_named),
+        ("expression_read", |data, reps| once_read::<Expr>(data, data.len(), reps)),
+        ("expression_write", |data, reps| once_write::<Expr>(data, data.len(), reps)),
     ];
     loads::main(&loads::Calls(calls));
 }
@@ -130,4 +142,103 @@ fn walks(data: &[u8], reps: u32) -> usize {
         sum = sum_of_rows(&value, sum);
     }
     sum as usize
+}
+
+/// This and the lengths of the texts of a list of lists.
+#[inline(never)]
+fn lengths_of_rows(value: &Value, before: usize) -> usize {
+    let mut sum = before;
+    let Value::List(rows) = value else {
+        return sum;
+    };
+    for row in rows {
+        if let Value::List(items) = row {
+            for item in items {
+                if let Value::Text(text) = item {
+                    sum = sum.wrapping_add(text.len());
+                }
+            }
+        }
+    }
+    sum
+}
+
+#[inline(never)]
+fn walks_texts(data: &[u8], reps: u32) -> usize {
+    let value = from_slice::<Value>(data).expect("a message");
+    let mut sum: usize = 0;
+    for _ in 0..reps {
+        sum = lengths_of_rows(&value, sum);
+    }
+    sum
+}
+
+/// A number, and the next one.
+#[derive(Deserialize, Serialize)]
+struct Chain {
+    at: u32,
+    next: Option<Box<Chain>>,
+}
+
+/// An expression over numbers.
+#[derive(Deserialize, Serialize)]
+enum Expr {
+    Number(u32),
+    Negated(Box<Expr>),
+    Sum(Box<Expr>, Box<Expr>),
+}
+
+/// Reads messages of this length, each by a call of its own.
+#[inline(never)]
+fn once_read<T: for<'de> Deserialize<'de>>(data: &[u8], size: usize, reps: u32) -> usize {
+    let mut sum: usize = 0;
+    for _ in 0..reps {
+        for message in data.chunks(size) {
+            if from_slice::<T>(message).is_ok() {
+                sum = sum.wrapping_add(1);
+            }
+        }
+    }
+    sum
+}
+
+/// The values of messages of this length.
+fn values<T: for<'de> Deserialize<'de>>(data: &[u8], size: usize) -> Vec<T> {
+    let read = |message| from_slice::<T>(message).expect("a value");
+    data.chunks(size).map(read).collect()
+}
+
+/// Writes them, each by a call of its own.
+#[inline(never)]
+fn once_write<T: for<'de> Deserialize<'de> + Serialize>(
+    data: &[u8],
+    size: usize,
+    reps: u32,
+) -> usize {
+    let items: Vec<T> = values(data, size);
+    let mut sum: usize = 0;
+    for _ in 0..reps {
+        sum = 0;
+        for item in &items {
+            if let Ok(bytes) = rmp_serde::to_vec(item) {
+                sum = sum.wrapping_add(bytes.len());
+            }
+        }
+    }
+    sum
+}
+
+#[inline(never)]
+fn chain_write_named(data: &[u8], reps: u32) -> usize {
+    let items: Vec<Chain> = values(data, data.len());
+    let mut sum: usize = 0;
+    for _ in 0..reps {
+        sum = 0;
+        for item in &items {
+            if let Ok(bytes) = rmp_serde::to_vec_named(item) {
+                sum = sum.wrapping_add(bytes.len());
+            }
+        }
+    }
+    sum
 }
