@@ -15,7 +15,8 @@ sys.dont_write_bytecode = True
 from derive.command import derive
 from derive.reading import renaming
 from derive.reading.modules import Module
-from derive.table.kinds import parted, split
+from derive.table.kinds import parted
+from shared.brackets import split
 from shared.files import write
 from testing import read_samples
 from testing.model import heads
@@ -45,8 +46,9 @@ HOMES = {
     "rmp_serde::wire": "ByteBuf Bytes Ext F32Bits F64Bits",
     "std::collections": "BTreeMap BTreeSet VecDeque",
     "test_derived": "Dog Four Newtype Opt Two Unit V12",
-    "test_nodes": "Rose",
-    "test_recursive": "Nested Tree",
+    "test_json": "Dir Json",
+    "test_nodes": "Doc Frame Id List Rose Width",
+    "test_recursive": "Nested Order Span Task Term Tree",
     "test_types": "TupleS TupleS0 UnkMap UnkSeq",
 }
 HOME = {name: home for home, names in HOMES.items() for name in names.split()}
@@ -178,8 +180,8 @@ class Body:
             return f"{int(value, 0)}{kind}"
         if kind in ("bool", "char", "&str", "()"):
             return value
-        if kind in ("f32", "f64"):
-            return f"{kind.upper()}Bits({inside(value, kind + '::from_bits(', ')')})"
+        if kind in ("f32", "f64", "F32Bits", "F64Bits"):
+            return f"{kind[:3].upper()}Bits({inside(value, kind[:3].lower() + '::from_bits(', ')')})"
         if kind == "String":
             return f"String::from_str(alloc, {text_of(value)})?"
         if kind == "Ext":

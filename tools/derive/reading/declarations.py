@@ -9,9 +9,10 @@ import dataclasses
 import re
 from typing import TYPE_CHECKING, Iterator, Optional
 
+from shared.brackets import depth_at, split
 from shared.terms import variants_as
 
-from ..table.kinds import Refused, closing, depth_at, identifiers, split
+from ..table.kinds import Refused, closing, identifiers
 from ..table.types import MOST_IN_VARIANT, MOST_NAMED, MOST_UNNAMED, Declared, Field, Shape, is_flat
 from . import renaming
 from .defaults import Known, default_of

@@ -6,9 +6,10 @@ import re
 from collections.abc import Iterator
 from typing import TYPE_CHECKING, Optional
 
+from shared.brackets import depth_at, split
 from shared.terms import MOST
 
-from ..table.kinds import PLAIN, PRELUDE, Refused, closing, depth_at, split
+from ..table.kinds import PLAIN, PRELUDE, Refused, closing
 
 if TYPE_CHECKING:
     from .declarations import Source

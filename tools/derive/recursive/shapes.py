@@ -8,9 +8,10 @@ from __future__ import annotations
 import re
 from typing import TYPE_CHECKING, Optional
 
-from ..table.kinds import parted, split
+from ..table.kinds import parted
 from ..flat.terms import chained
 from .leaves import Part, put_in, terms_of
+from shared.brackets import split
 from shared.terms import list_of, tuple_of
 
 if TYPE_CHECKING:
