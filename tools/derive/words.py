@@ -2,6 +2,7 @@
 from __future__ import annotations
 
 import os
+from string import Template
 
 
 def read_tables() -> dict[str, dict[str, str]]:
@@ -24,3 +25,8 @@ TABLES = read_tables()
 def joined(*tables: dict[str, str]) -> dict[str, str]:
     """One table of these."""
     return {module: " ".join(table[module] for table in tables if module in table) for module in {key: None for table in tables for key in table}}
+
+
+def filled(table: dict[str, str], **words: str) -> dict[str, str]:
+    """The table with these words in the places that it has for them."""
+    return {Template(module).substitute(words): Template(names).substitute(words) for module, names in table.items()}

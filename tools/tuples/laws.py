@@ -2,6 +2,9 @@
 from __future__ import annotations
 
 from shared.terms import KINDS, all_of, any_of, both_of, bounded, in_a_row, known, lent, linked, list_of, tuple_of
+from shared.texts import Texts
+
+TEXTS = Texts(__file__)
 
 ROUNDS_HEAD = """//! Tuples. Written by tools/tuples.py.
 ghost use Rattle.std.specs.Prelude.{◌∷◌, ◌||◌, [], true};
@@ -41,29 +44,11 @@ def rounds(count: int) -> str:
         equal = f"(then_tied _ _ {equal} {one})" if equal else one
     of = tuple_of(kinds)
     only = f"(λ m. (w : _) → ⟦<{of} as Deserialize<'de, R>>⟧.reads s.human R.lends m w → {same})"
-    return f"""
-impl<'de, R: ReadSlice<'de>, {bounded(kinds, "RoundTrip<'de, R>")}> RoundTrip<'de, R> for {of} {{
-    ghost borrows = {{ {any_of(borrows)} }};
-
-    ghost has_data = {{ λ human v. tuple_some _ {stated} }};
-
-    ghost round = {{ λ lent s v fits. tuple_row s _ _ {read} }};
-
-    ghost same = {{ λ v w. {same} }};
-
-    ghost alike = {{ λ human v w h i. tuple_of ({alike}) }};
-
-    ghost only = {{ λ s v fits. lowers_then s _ _ {only} (tuple_row s _ _ {alone}) (λ m q w r. {both}) }};
-}}
-
-impl<{bounded(kinds, "Serialize")}> NeverNil for {of} {{
-    ghost never_nil = {{ λ s v. tuple_other s ({in_a_row(f"{kind}.data_of v.{i} s.human" for kind, i, *_ in places)}) }};
-}}
-
-impl<'de, R: ReadSlice<'de>, {bounded(kinds, "ContentOrd<'de, R>")}> ContentOrd<'de, R> for {of} {{
-    ghost equal = {{ λ v w h. {equal} }};
-}}
-"""
+    return TEXTS.fill(
+        "rounds", bounded=bounded(kinds, "RoundTrip<'de, R>"), of=of, any_of=any_of(borrows), stated=stated, read=read, same=same, alike=alike,
+        only=only, alone=alone, both=both, bounded_2=bounded(kinds, 'Serialize'),
+        in_a_row=in_a_row((f'{kind}.data_of v.{i} s.human' for kind, i, *_ in places)), bounded_3=bounded(kinds, "ContentOrd<'de, R>"), equal=equal,
+    )
 
 
 ENDS_HEAD = """//! Tuples. Written by tools/tuples.py.
@@ -79,8 +64,7 @@ use rmp_wire::ReadSlice;
 def ends(count: int) -> str:
     kinds = KINDS[:count]
     parts = list_of([f"part_of {kind}.reads {kind}.refuses" for kind in kinds])
-    return f"""
-impl<'de, R: ReadSlice<'de>, {bounded(kinds, "EndsInside<'de, R>")}> EndsInside<'de, R> for {tuple_of(kinds)} {{
-    ghost ends_inside = {{ tuple_inside ({parts}) {all_of([f"{kind}.ends_inside" for kind in kinds])} }};
-}}
-"""
+    return TEXTS.fill(
+        "ends", bounded=bounded(kinds, "EndsInside<'de, R>"), tuple_of=tuple_of(kinds), parts=parts,
+        all_of=all_of([f'{kind}.ends_inside' for kind in kinds]),
+    )

@@ -9,6 +9,9 @@ from __future__ import annotations
 from derive.flat.terms import nested, place_of
 from derive.table.types import LEAST_FLAT, MOST_FLAT
 from shared.terms import KINDS, Answers, around, bounded, chained, in_a_row, list_of, tuple_of
+from shared.texts import Texts
+
+TEXTS = Texts(__file__)
 
 TUPLES_HEAD = """//! Tuples, from lists of as many elements, or bytes of as many. Written by tools/tuples.py.
 ghost use Rattle.std.specs.Prelude.{◌||◌, None, [], ◌∷◌};
@@ -50,29 +53,11 @@ def tuples(count: int) -> str:
     names = [kind.lower() for kind in kinds]
     of = tuple_of(kinds)
     reads = chained([f"AndThen (λ k. {kind}.reads human lends k v.{i})" for i, kind in enumerate(kinds)], "NoMore")
-    return f"""
-impl<'de, R: ReadSlice<'de>, {bounded(kinds, "Deserialize<'de, R>")}> Deserialize<'de, R> for {of} {{
-    ghost reads = {{ λ human lends m v. OfRow ({reads}) m }};
-
-    ghost absent = {{ None }};
-
-    ghost refuses = {{ RefusesTuple ({in_a_row(f"part_of {kind}.reads {kind}.refuses" for kind in kinds)}) }};
-
-    ghost takes_memory = {{ λ lends. {one_of([f"{kind}.takes_memory lends" for kind in kinds])} }};
-
-    #[inline(always)]
-    fn deserialize<C: SerializerConfig>(de: &mut Deserializer<R, C>) -> Result<{of}, Error> {{
-        match de.tuple_parts({count}) {{
-            Ok({fields_of(names)}) => Ok({tuple_of(names)}),
-            Err(e) => Err(e),
-        }}
-    }}
-
-    fn missing() -> Option<{of}> {{
-        None
-    }}
-}}
-"""
+    return TEXTS.fill(
+        "tuples", bounded=bounded(kinds, "Deserialize<'de, R>"), of=of, reads=reads,
+        in_a_row=in_a_row((f'part_of {kind}.reads {kind}.refuses' for kind in kinds)),
+        one_of=one_of([f'{kind}.takes_memory lends' for kind in kinds]), count=count, fields_of=fields_of(names), tuple_of=tuple_of(names),
+    )
 
 
 def no_memory(kinds: str) -> str:
@@ -149,20 +134,6 @@ def read_fields(count: int) -> str:
     given = " ".join(f"{kind}.reads {kind}.absent" for kind in kinds)
     parts = list_of([f"part_of {kind}.reads {kind}.refuses" for kind in kinds])
     needed = list_of([f"is_none {kind}.absent" for kind in kinds])
-    return f"""
-/// Reads {count} fields by their names, as `Deserializer::deserialize_fields` does.
-///
-/// # Errors
-/// Those of `Deserializer::deserialize_fields`.
-#[inline(always)]
-pub fn read_fields_{count}<'de, R: ReadSlice<'de>, C: SerializerConfig, {bounded(kinds, "Deserialize<'de, R>")}>(
-    de: &mut Deserializer<R, C>,
-    names: &[&str],
-) -> Result<{nested(kinds)}, Error>
-    requires count {{ length names.now ≡ {count} }}
-    ensures law {{ Lawful R.Source (λ m v. OfFields (bytes_of names.now) (λ fs. reads_{count} {given} C.human R.lends fs v) m) de.old de.new result }}
-    ensures refused {{ RefusesAs R.Source C.human R.lends (RefusesFields (bytes_of names.now) ({needed}) ({parts})) de.old de.new result }}
-{{
-    de.deserialize_fields::<{nested(kinds)}>(names)
-}}
-"""
+    return TEXTS.fill(
+        "read_fields", count=count, bounded=bounded(kinds, "Deserialize<'de, R>"), nested=nested(kinds), given=given, needed=needed, parts=parts,
+    )

@@ -4,6 +4,9 @@ from __future__ import annotations
 from shared import halves
 from shared.halves import FIELDS, NAMES, kinds
 from shared.terms import bounded, bracketed, in_a_row, tuple_of
+from shared.texts import Texts
+
+TEXTS = Texts(__file__)
 
 LETTERS = "abcdefgh"
 
@@ -50,20 +53,10 @@ def elements(count: int) -> str:
     name, names = NAMES[count - 1], kinds(count)
     fields = "\n".join(f"    pub {field}: &'r {kind}," for field, kind in zip(FIELDS, names))
     written, named, added = bodies(count)
-    return f"""
-/// {WORDS[count - 1]}.
-#[derive(Drop)]
-pub struct {name}<'r, {", ".join(names)}> {{
-{fields}
-}}
-{halves.implementation(name, count, written, named)}
-impl<'r, {bounded(names, "Serialize")}> Row for {name}<'r, {", ".join(names)}> {{
-    #[inline(always)]
-    fn add_to<W: Sink, C: SerializerConfig>(&self, tup: &mut Tuple<'_, W, C>) -> Result<(), Error> {{
-        {added}
-    }}
-}}
-"""
+    return TEXTS.fill(
+        "elements", more=WORDS[count - 1], name=name, rest=', '.join(names), fields=fields,
+        implementation=halves.implementation(name, count, written, named), bounded=bounded(names, 'Serialize'), added=added,
+    )
 
 
 TUPLES_HEAD = """//! Tuples of one to eight elements. Written by tools/tuples.py.
@@ -86,28 +79,10 @@ use rmp_wire::config::SerializerConfig;
 
 def tuples(count: int) -> str:
     names = kinds(count)
-    return f"""
-impl<{bounded(names, "Serialize")}> Serialize for {tuple_of(names)} {{
-    ghost data_of = {{ λ v human. tuple_of ({in_a_row(f"{k}.data_of v.{i} human" for i, k in enumerate(names))}) }};
-
-    ghost is_value = {{ λ v. {" × ".join(f"{k}.is_value v.{i}" for i, k in enumerate(names))} }};
-
-    ghost takes_memory = {{ λ s. forces_all s.bytes || one_of {bracketed([f"{k}.takes_memory s" for k in names])} }};
-
-    ghost refuses = {{ λ v. OfParts ⊥ {bracketed([f"{k}.refuses v.{i}" for i, k in enumerate(names)])} }};
-
-    fn serialize<W: Sink, C: SerializerConfig>(
-        &self,
-        se: &mut Serializer<W, C>,
-    ) -> Result<(), Error> {{
-        let elements = {NAMES[count - 1]} {{ {", ".join(f"{field}: &self.{i}" for i, field in enumerate(FIELDS[:count]))} }};
-        put_row(se, {count}, &elements)
-    }}
-
-    #[tactic(auto, using(crate::proofs::Packing::tuple_no_byte))]
-    #[inline(always)]
-    fn as_u8(&self, _human: bool) -> Option<u8> {{
-        None
-    }}
-}}
-"""
+    return TEXTS.fill(
+        "tuples", bounded=bounded(names, 'Serialize'), tuple_of=tuple_of(names),
+        in_a_row=in_a_row((f'{k}.data_of v.{i} human' for i, k in enumerate(names))),
+        rest=' × '.join((f'{k}.is_value v.{i}' for i, k in enumerate(names))), bracketed=bracketed([f'{k}.takes_memory s' for k in names]),
+        bracketed_2=bracketed([f'{k}.refuses v.{i}' for i, k in enumerate(names)]), more=NAMES[count - 1],
+        rest_2=', '.join((f'{field}: &self.{i}' for i, field in enumerate(FIELDS[:count]))), count=count,
+    )

@@ -12,10 +12,14 @@ from ..table.kinds import identifiers
 from ..flat.proofs import SIGNED
 from ..table.own import Own
 from ..flat.terms import codes, underscored
+from ..words import TABLES
 from .given import given_parts, homes_of, put_together
 from .leaves import LEAVES, Part, Values, leaf_of, put_in, terms_of
 from .shapes import shape_of
 from shared.terms import tuple_of
+from shared.texts import Texts
+
+TEXTS = Texts(__file__)
 
 
 @dataclasses.dataclass(frozen=True)
@@ -503,55 +507,12 @@ def at_value(level: Level, shape: Shape, part: Optional[Part], values: list[str]
 
 def inductive(level: Level, kids: str, hold: str, through: str) -> list[tuple[str, str]]:
     """The same, by what its parts are and the lines of two lemmas on them."""
-    name, low = level.name, level.low
-    return [("", f"""
--- ---- induction
-
--- P holds of the parts
-abbrev pub {name}Parts : ({name} → Type 0) → {name}-F {name} → Type 0
-{kids}
-{low}_parts_hold : {{B : Type 0}} (P : {name} → Type 0) (first : B → {name}) → ((b : B) → P (first b)) → (y : {name}-F B) → {name}Parts P (map-{name} B {name} first y)
-{hold}
--- what holds of a value where it holds of its parts holds of each value
-pub {low}_induction : (P : {name} → Type 0) → ((v : {name}) → {name}Parts P (out-{name} v) → P v) → (v : {name}) → P v
-{low}_induction P step =
-    ind-{name} P (λ x y same. step (roll-{name} x) (subst ({name}Parts P) (same ∙ sym (out-roll-{name} x)) ({low}_parts_hold P (λ e. e.0) (λ e. e.1) y)))
-"""), ("F", f"""
-{low}_through : (X : Type 0) (at : X → {name}) (k : {name} → Type 0) (x : {name}-F X)
-    → {low}_layer_fits X at (λ p. k (at p)) x ≡ {low}_layer_fits {name} (λ y. y) k (map-{name} X {name} at x)
-{through}
-"""), *known_of(level)]
+    return [("", TEXTS.fill("inductive", level, kids=kids, hold=hold)), ("F", TEXTS.fill("inductive_2", level, through=through)), *known_of(level)]
 
 
 def known_of(level: Level) -> list[tuple[str, str]]:
     """What is known of a value is known of its parts, and what it is written as is one level of it."""
-    name, low = level.name, level.low
-    return [("F", f"""
-abbrev pub {name}Fits : {name}-F {name} → Type 0
-{name}Fits x = {low}_layer_fits {name} (λ y. y) {low}_fits x
-
-{low}_fits_is : (v : {name}) → {low}_fits v ≡ {name}Fits (out-{name} v)
-{low}_fits_is v = ap {low}_fits (sym (roll-out-{name} v)) ∙ rec-roll-{name} (Type 0) {low}_layer_fits {low}_through (out-{name} v)
-
-pub {low}_fits_out : (v : {name}) → {low}_fits v → {name}Fits (out-{name} v)
-{low}_fits_out v h = subst (λ T. T) ({low}_fits_is v) h
-
-pub {low}_fits_in : (v : {name}) (x : {name}-F {name}) → out-{name} v ≡ x → {name}Fits x → {low}_fits v
-{low}_fits_in v x e h = subst (λ T. T) (sym ({low}_fits_is v)) (subst {name}Fits (sym e) h)
-"""), ("D", f"""
-pub {low}_is : (v : {name}) → {low}_data v ≡ {low}_level (map-{name} {name} (Option Data) {low}_data (out-{name} v))
-{low}_is v = fold_out-{name} (Option Data) {low}_level v
-
-pub {low}_is_at : (v : {name}) (x : {name}-F {name}) → out-{name} v ≡ x → {low}_data v ≡ {low}_level (map-{name} {name} (Option Data) {low}_data x)
-{low}_is_at v x e = {low}_is v ∙ ap (λ z. {low}_level (map-{name} {name} (Option Data) {low}_data z)) e
-""")]
-
-
-# The lemmas that a leaf is read as it was written.
-LEAF_ROWS = "byte_row truth_row float32_row float64_row char_row string_row buffer_row".split()
-LEAF_ROWS += [f"{sign}_row_{bits}" for sign in ("signed", "unsigned") for bits in (8, 16, 32, 64)]
-# And that none is written as nil.
-LEAF_ROWS += dict.fromkeys(part.other.split()[0] for part in LEAVES.values())
+    return [("F", TEXTS.fill("known_of", level)), ("D", TEXTS.fill("known_of_2", level))]
 
 
 def has_truth(of: Declared) -> bool:
@@ -560,61 +521,7 @@ def has_truth(of: Declared) -> bool:
 
 
 # Where the words of the libraries come from.
-LIBRARY = {
-    "std.proofs.Common": "◌≡◌ ◌∙◌ refl sym ap subst ℕ zero suc List [] ◌∷◌ map All Option None Some String Box",
-    "std.specs.Char": "IsScalar",
-    "std.specs.Cmp.Lexicographic": "slice_cmp",
-    "std.specs.Int": "w8 w16 w32 w64 w128",
-    "std.specs.List": "AllByRecursion",
-    "std.specs.Cmp": "bool_cmp_total",
-    "std.specs.Ordering": "nat_cmp bool_cmp",
-    "std.specs.String": "string_cmp string_cmp_total",
-    "std.proofs.lemmas.Cmp": "nat_cmp_total",
-    "std.proofs.lemmas.Map.Lookups": "exact_unsigned exact_bytes",
-    **{f"std.specs.declared.collections.{kind}": kind for kind in ("BTreeMap", "BTreeSet", "VecDeque")},
-    "std.specs.Prelude": "◌≢◌ ◌<◌ ◌^◌ ⊤ codes Vec Bool ℤ pos negsuc FitsSigned IsUtf8 IsSome IfSome string_bytes",
-    "std.specs.declared.alloc.Global": "Global",
-    "rmp_wire.specs.Msg": "Msg nil",
-    "rmp_wire.specs.Types": "buffer_bytes",
-    **{f"rmp_wire.specs.declared.types.{kind}": kind for kind in ("ByteBuf", "F32Bits", "F64Bits")},
-    "rmp_decode.specs.Buffers": "IsBuffer",
-    "rmp_decode.specs.Wide": "IsUnsigned128 IsSigned128",
-    "rmp_decode.specs.Fields": "OfFields Field Absent NoField",
-    "rmp_decode.specs.Law": "Readable",
-    "rmp_decode.specs.Maps": "ReadsEntries",
-    "rmp_decode.specs.Options": "IsOption",
-    "rmp_decode.specs.Read": "IsUnsigned IsSigned IsRaw IsChar",
-    "rmp_decode.specs.Rows": "ReadsEach AndThen NoMore",
-    "rmp_decode.specs.Seq": "OfRow",
-    "rmp_decode.specs.Variants": "OfVariant Case NoCase Bare Content",
-    "rmp_encode.specs.Data": "Data byte whole unsigned128 signed128 truth float32 float64 char text bytes unit_variant",
-    "rmp_encode.specs.Trees": "tree_of tuple_of slice_of sequence_of option_of mapping_of in_turn newtype_variant_of tuple_variant_of struct_variant_of structure_of",
-    "rmp_encode.specs.declared.settings.Settings": "Settings",
-    "rmp_round_trip.specs.LeafRounds": " ".join(LEAF_ROWS),
-    "rmp_round_trip.specs.MapRounds": "map_row pairs_row",
-    "rmp_round_trip.specs.OnlyFields": "AtPlace AnyContent content_only content_row content_fields variant_both fields_both field_only last_field",
-    "rmp_round_trip.specs.OnlyLeaves": "truth_only byte_only unsigned_only signed_only unsigned128_only signed128_only float32_only float64_only"
-    " char_only string_only buffer_only",
-    "rmp_round_trip.specs.OnlyMaps": "map_only",
-    "rmp_round_trip.specs.OnlyRows": "row_both inside_only item_only last_only list_only option_only lowers_then",
-    "rmp_round_trip.specs.RoundTrip": "Alike AlikeEntries AlikeOption LowersTo Only",
-    "rmp_round_trip.specs.Rounds": "slice_some each_some each_row slice_row slice_other sequence_some sequence_row sequence_other option_some option_row tuple_row tuple_other rows_none rows_cons",
-    "rmp_round_trip.specs.StructRounds": "tuple_all tuple_variant_all struct_variant_all structure_all structure_row structure_other fields_none fields_cons",
-    "rmp_round_trip.specs.VariantRounds": "newtype_variant_some bare_row newtype_variant_row tuple_variant_row struct_variant_row bare_other"
-    " newtype_variant_other tuple_variant_other struct_variant_other",
-    "rmp_round_trip.specs.WideRounds": "unsigned128_row signed128_row",
-    "rmp_recursive.specs.Parts": "Row Boxed InSteps row_as row_in option_as option_in variant_as variant_in of_row_as of_row_in then_as then_in"
-    " each_holds through all_by each_from option_from",
-    "rmp_recursive.specs.Fields": "fields_as fields_in field_as field_in",
-    "rmp_recursive.specs.Given": "alike_as alike_option_as entries_as",
-    "rmp_recursive.specs.Shapes": "each_through each_mapped each_both option_both all_known option_known each_as",
-    "rmp_recursive.specs.Leaves": "maps_alike_by option_alike_by",
-    "rmp_recursive.specs.MapRounds": "mapping_data maps_alike exact_truth",
-    "rmp_recursive.specs.Maps": "EntriesFit map_as map_in entries_hold entries_through entries_from turns_mapped",
-    "rmp_recursive.specs.Rounds": "each_data option_data lowers_as map_alike option_alike",
-}
-
-
+LIBRARY = TABLES["recursive terms"]
 # Words that proofs bring in beside those, or that have a meaning of their own.
 MORE = set("Values Gathers StructRun Result Slot Msgs IsOpen IsMapOpen IsStructOpen TakesPlace ReadsPairs Collects Unit Prim".split()) | QUOTED
 
