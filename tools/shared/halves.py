@@ -69,7 +69,7 @@ def implementation(name: str, n: int, elements: str, named: str, path: str = "")
     fields = list(zip(names, FIELDS))
     pieces = in_a_row(f"\n        value_of s ({kind}.data_of v.{field}.now s.human) ({kind}.marks v.{field}.now s)" for kind, field in fields)
     return TEXTS.fill(
-        "implementation", bounded=bounded(names, 'Serialize'), name=name, rest=', '.join(names), n=n,
+        "implementation", bounds=bounded(names, 'Serialize'), name=name, kinds=', '.join(names), n=n,
         in_a_row=in_a_row((f'{kind}.data_of v.{field}.now human' for kind, field in fields)),
         rest_2=' × '.join((f'{kind}.is_value v.{field}.now' for kind, field in fields)),
         in_a_row_2=in_a_row((f'{kind}.refuses v.{field}.now' for kind, field in fields)),

@@ -54,8 +54,8 @@ def elements(count: int) -> str:
     fields = "\n".join(f"    pub {field}: &'r {kind}," for field, kind in zip(FIELDS, names))
     written, named, added = bodies(count)
     return TEXTS.fill(
-        "elements", more=WORDS[count - 1], name=name, rest=', '.join(names), fields=fields,
-        implementation=halves.implementation(name, count, written, named), bounded=bounded(names, 'Serialize'), added=added,
+        "elements", words=WORDS[count - 1], name=name, kinds=', '.join(names), fields=fields,
+        implementation=halves.implementation(name, count, written, named), bounds=bounded(names, 'Serialize'), added=added,
     )
 
 
@@ -80,9 +80,9 @@ use rmp_wire::config::SerializerConfig;
 def tuples(count: int) -> str:
     names = kinds(count)
     return TEXTS.fill(
-        "tuples", bounded=bounded(names, 'Serialize'), tuple_of=tuple_of(names),
+        "tuples", bounds=bounded(names, 'Serialize'), tuple_of=tuple_of(names),
         in_a_row=in_a_row((f'{k}.data_of v.{i} human' for i, k in enumerate(names))),
-        rest=' × '.join((f'{k}.is_value v.{i}' for i, k in enumerate(names))), bracketed=bracketed([f'{k}.takes_memory s' for k in names]),
-        bracketed_2=bracketed([f'{k}.refuses v.{i}' for i, k in enumerate(names)]), more=NAMES[count - 1],
+        known=' × '.join((f'{k}.is_value v.{i}' for i, k in enumerate(names))), memory=bracketed([f'{k}.takes_memory s' for k in names]),
+        refused=bracketed([f'{k}.refuses v.{i}' for i, k in enumerate(names)]), holder=NAMES[count - 1],
         rest_2=', '.join((f'{field}: &self.{i}' for i, field in enumerate(FIELDS[:count]))), count=count,
     )

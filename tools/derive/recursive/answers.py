@@ -92,7 +92,7 @@ def map_writing(level: Level, shape: Shape, part: Part, made: str, call: str) ->
     """That a variant that holds a map is written as one level of it."""
     goal = f'returns-in-{shape.name}-clause-writes'
     writes = f"{call}.ensures.writes" if is_map(part) else f"({TAKES} {call}.ensures.writes)"
-    return TEXTS.fill("map_writing", level, goal=goal, name_2=shape.name, made=made, more=THEN[bool(level.given)], writes=writes)
+    return TEXTS.fill("map_writing", level, goal=goal, variant=shape.name, made=made, then=THEN[bool(level.given)], writes=writes)
 
 
 def row_writing(level: Level, shape: Shape, part: Part, opened_before: bool, ended_before: bool) -> str:

@@ -10,7 +10,7 @@ from .fields import counted_lines, from_lines, names_lines, pairs_of, wider_line
 from .given import in_order
 from .leaves import Part
 from .shapes import HERE
-from .levels import Again, Content, Level, called, cases, cases_of, data_from, each, file_of, has_map, held_in, inductive, inside
+from .levels import Again, Content, Level, called, cases, cases_of, data_from, each, file_of, fits_of, has_map, held_in, inductive, inside
 from .levels import is_apart, is_mapped, named_in, peano, product, wider
 from shared.terms import bracketed
 from shared.texts import Texts
@@ -32,7 +32,7 @@ def shape_of(level: Level) -> str:
         cases = f"Case ({head})\n    {cases}" if cases == "NoCase" else f"Case ({head})\n    ({cases})"
     return TEXTS.fill(
         "shape_of", level, names=level.names(),
-        rest=''.join([*(row_shape(level, shape, part) for shape, part in level.rows()), *(fields_shape(of) for of in level.contents())]),
+        contents=''.join([*(row_shape(level, shape, part) for shape, part in level.rows()), *(fields_shape(of) for of in level.contents())]),
         cases=cases,
     )
 
@@ -47,7 +47,7 @@ def row_shape(level: Level, shape: Shape, part: Part) -> str:
     word, again = f"{level.name}Row{shape.name}", not part.is_leaf
     reads = [f"(λ j. {of.reads.format(reads='reads', k='j', a=value)})" for of, value in zip(part.held, inside(part))]
     return TEXTS.fill(
-        "row_shape", name_2=shape.name, word=word, more=f'(Msg → {level.name} → Type 0) → ' * again, term=part.term, more_2='reads ' * again,
+        "row_shape", variant=shape.name, word=word, by=f'(Msg → {level.name} → Type 0) → ' * again, term=part.term, reads='reads ' * again,
         row_reads=row_reads(reads),
     )
 
@@ -55,8 +55,8 @@ def row_shape(level: Level, shape: Shape, part: Part) -> str:
 def fields_shape(of: Content) -> str:
     """What the named fields of a variant are read from."""
     return TEXTS.fill(
-        "fields_shape", of, name_2=of.shape.name, more=names_lines(of)[1:], from_lines=from_lines(of),
-        more_2=f'(Msg → {of.whole.name} → Type 0) → ' * (not of.is_leaf()), term=of.term, said=of.said('Read', 'reads'),
+        "fields_shape", of, variant=of.shape.name, names=names_lines(of)[1:], fields=from_lines(of),
+        by=f'(Msg → {of.whole.name} → Type 0) → ' * (not of.is_leaf()), term=of.term, read=of.said('Read', 'reads'),
         said_2=of.said('Fields', 'reads'),
     )
 
@@ -80,7 +80,7 @@ def written_of(level: Level) -> list[tuple[str, str]]:
         made = level.made(shape, names)
         datas += f"{low}_level {made} = {content_data(shape, [of.data.format(a=name) for of, name in zip(held, names)])}\n"
         fits += f"{low}_layer_fits X at fits {made} = {product([of.fits.format(a=name, fits='fits').replace(HERE, 'X') for of, name in zip(held, names)], '⊤')}\n"
-    return [("D", TEXTS.fill("written_of", level, datas=datas)), ("F", TEXTS.fill("written_of_2", level, fits=fits))]
+    return [("D", TEXTS.fill("data_of", level, datas=datas)), fits_of(level, fits)]
 
 
 def steps_of(level: Level) -> str:
@@ -101,9 +101,9 @@ def steps_of(level: Level) -> str:
     case = f"{name}Case"
     rows, contents = [(shape, part) for shape, part in level.rows() if isinstance(part, Again)], level.contents_again()
     return TEXTS.fill(
-        "steps_of", level, rest=''.join([*(row_wider(level, shape, part) for shape, part in rows), *(fields_wider(of) for of in contents)]),
+        "steps_of", level, wider_contents=''.join([*(row_wider(level, shape, part) for shape, part in rows), *(fields_wider(of) for of in contents)]),
         case=case, wider=wider,
-        rest_2=''.join([*(row_counted(level, shape, part) for shape, part in rows), *(fields_counted(of) for of in contents)]), counted=counted,
+        counted_contents=''.join([*(row_counted(level, shape, part) for shape, part in rows), *(fields_counted(of) for of in contents)]), counted=counted,
     )
 
 
@@ -116,7 +116,7 @@ def items_wider(part: Part, by: tuple[str, str, str], start: int = 0) -> str:
 def row_wider(level: Level, shape: Shape, part: Again) -> str:
     """What one reading of several values says by another."""
     word = f'{level.name}Row{shape.name}'
-    return TEXTS.fill("row_wider", level, name_2=shape.name, term=part.term, word=word, items_wider=items_wider(part, ('P', 'Q', 'f')))
+    return TEXTS.fill("row_wider", level, variant=shape.name, term=part.term, word=word, items=items_wider(part, ('P', 'Q', 'f')))
 
 
 def row_counted(level: Level, shape: Shape, part: Again) -> str:
@@ -127,21 +127,21 @@ def row_counted(level: Level, shape: Shape, part: Again) -> str:
     for at, (of, value) in enumerate(zip(part.held, inside(part))):
         into = f"(λ m h. {called(of.counted, value)})" if isinstance(of, Again) else "(λ m h. (zero, h))"
         steps.append(f"then_in _ _ _ _ (λ i. {wider(of, value, by)}) (λ i. {items_wider(part, by, at + 1)}) {into}")
-    return TEXTS.fill("row_counted", level, name_2=shape.name, term=part.term, word=word, chained=chained(steps, '(λ ms h. (zero, h))'))
+    return TEXTS.fill("row_counted", level, variant=shape.name, term=part.term, word=word, steps=chained(steps, '(λ ms h. (zero, h))'))
 
 
 def fields_wider(of: Content) -> str:
     """What one reading of a variant's named fields says by another."""
     name, at = of.whole.name, f"{of.whole.low}_as_{of.shape.name}"
     fields = [f"(λ fs. {of.name}Fields {reads} fs a)" for reads in "PQ"]
-    return TEXTS.fill("fields_wider", of, wider_lines=wider_lines(of), at=at, name_2=name, term=of.term, rest=' '.join(fields))
+    return TEXTS.fill("fields_wider", of, lines=wider_lines(of), at=at, whole=name, term=of.term, fields=' '.join(fields))
 
 
 def fields_counted(of: Content) -> str:
     """The number of steps in which they are read."""
     steps, at = f"{of.whole.name}In", f"{of.whole.low}_in_{of.shape.name}"
     fields = f"(λ fs. {of.name}Fields {of.reads} fs a) (λ n fs. {of.name}Fields ({steps} n) fs a)"
-    return TEXTS.fill("fields_counted", of, counted_lines=counted_lines(of), at=at, term=of.term, reads=of.reads, steps=steps, fields=fields)
+    return TEXTS.fill("fields_counted", of, lines=counted_lines(of), at=at, term=of.term, reads=of.reads, steps=steps, fields=fields)
 
 
 def last_place(count: int) -> str:

@@ -72,9 +72,9 @@ def list_answers(level: Level, part: Again) -> str:
     row = f"({kind}_row {name})"
     start = f"let p = err_from_is_err_and c.from_residual{{at}}.result c.from_residual{{at}}.ensures.1 in\n"
     run = "let r = c.loop-items.invariant in\n    let e = c.in_{}-item.ensures in\n"
-    taken = TEXTS.fill("list_answers", name_2=name)
+    taken = TEXTS.fill("list_taken", reads=name)
     step = f"values_step g.R.Source {name} c.in_ok-seq.seq c.loop-items.seq c.next_element_with.new.self c.loop-items.items.items c.in-Some.item r k e.same_reference"
-    over = TEXTS.fill("list_answers_3")
+    over = TEXTS.fill("list_over")
     opened = "c.in_ok-seq.ensures.opened"
 
     def refused(fact: str) -> str:
@@ -85,10 +85,11 @@ def list_answers(level: Level, part: Again) -> str:
         + refused(f"row_unopened g.R.Source {name} _ _ _ (rw c.in_err-seq.was at c.deserialize_seq.follows.holds-at-none)") + ")",
         "loop-items-init": f"rw c.new-items.ensures.items (values_start g.R.Source {name} c.in_ok-seq.seq {opened}.opened)",
         "next_element_with-requires": "λ s some d l p q.\n" + room_of(level, f"g.R.Source c.args.de.now c.in_ok-seq.seq c.loop-items.seq _ {opened} c.loop-items.invariant.run d l"),
-        "returns-in_err-item": start.format(at="-in_err-item") + "    " + run.format("err") + TEXTS.fill("list_answers_4", name_2=name) + refused(f"row_refused g.R.Source {name} _ c.in_ok-seq.seq c.loop-items.seq c.loop-items.items.items {opened} r _\n"
-                                        "          c.next_element_with.new.self _ f (e.marked r.run.still.marked) (search rules)") + ")",
+        "returns-in_err-item": start.format(at="-in_err-item") + "    " + run.format("err") + TEXTS.fill("list_refused", reads=name)
+        + refused(f"row_refused g.R.Source {name} _ c.in_ok-seq.seq c.loop-items.seq c.loop-items.items.items {opened} r _\n"
+                  "          c.next_element_with.new.self _ f (e.marked r.run.still.marked) (search rules)") + ")",
         "loop-items-preserved": run.format("ok") + "    " + taken + f"    rw c.in_ok-{push}.ensures.items ({step})",
-        "returns": run.format("ok") + "    " + over + TEXTS.fill("list_answers_2", kind=kind, name_2=name, opened=opened),
+        "returns": run.format("ok") + "    " + over + TEXTS.fill("list_done", kind=kind, reads=name, opened=opened),
         f"returns-in_err-{push}": start.format(at=f"-in_err-{push}") + unkept(name, row, f"{run.format('ok')}    {taken}    let v = {step} in\n", opened),
         "returns-in_err-end": run.format("ok") + "    " + over + "    let d = (c.in_err-end.ensures.err (subst IsOpen (sym n) r.run.still)).0 in\n"
         "    absurd (omega (arith, z, d, ap (λ s. s.left) n))",

@@ -507,12 +507,17 @@ def at_value(level: Level, shape: Shape, part: Optional[Part], values: list[str]
 
 def inductive(level: Level, kids: str, hold: str, through: str) -> list[tuple[str, str]]:
     """The same, by what its parts are and the lines of two lemmas on them."""
-    return [("", TEXTS.fill("inductive", level, kids=kids, hold=hold)), ("F", TEXTS.fill("inductive_2", level, through=through)), *known_of(level)]
+    return [("", TEXTS.fill("induction", level, kids=kids, hold=hold)), ("F", TEXTS.fill("through", level, through=through)), *known_of(level)]
+
+
+def fits_of(level: Level, fits: str) -> tuple[str, str]:
+    """What is known of a value, by these lines on each of its forms."""
+    return "F", TEXTS.fill("fits_of", level, fits=fits)
 
 
 def known_of(level: Level) -> list[tuple[str, str]]:
     """What is known of a value is known of its parts, and what it is written as is one level of it."""
-    return [("F", TEXTS.fill("known_of", level)), ("D", TEXTS.fill("known_of_2", level))]
+    return [("F", TEXTS.fill("fits_is", level)), ("D", TEXTS.fill("data_is", level))]
 
 
 def has_truth(of: Declared) -> bool:

@@ -35,7 +35,7 @@ class Map:
 
     def key(self) -> str:
         """That a key was read."""
-        return TEXTS.fill("Map_key", LOOP=LOOP, keys=self.keys, KEYED=KEYED)
+        return TEXTS.fill("key", keys=self.keys)
 
     def value(self) -> str:
         """That its value was read, too."""
@@ -45,19 +45,19 @@ class Map:
 
     def over(self) -> str:
         """That no pair is left."""
-        return TEXTS.fill("Map_over", LOOP=LOOP, keys=self.keys, KEYED=KEYED)
+        return TEXTS.fill("over", keys=self.keys)
 
     def refused(self, of: str, now: str, calls: list[str], lets: str, law: str) -> str:
         """An error that was returned early. What a call left is found before anything else is known: it's what the map borrowed."""
         facts = " ∙ ".join(f"sym {it}.same_reference" for it in [OPENED.removesuffix(".opened"), "c.loop-entries.invariant.read.run", *calls])
-        return TEXTS.fill("Map_refused", of=of, now=now, facts=facts, lets=lets, law=law)
+        return TEXTS.fill("refused", of=of, now=now, facts=facts, lets=lets, law=law)
 
     def half(self) -> str:
         return f"map_key g.R.Source {self.keys} {MAP} {LOOP} {KEYED} (flat r.read.trees) c.in-Some.key r.read.run r.read.at_key k e.same_reference"
 
     def refusals(self) -> dict[str, str]:
         """What is refused of a pair, or not kept."""
-        key = TEXTS.fill("Map_refusals", LOOP=LOOP, keys=self.keys, KEYED=KEYED)
+        key = TEXTS.fill("key_refused", keys=self.keys)
         value = f"    {self.key()}    let f = value_refused g.R.Source {self.values} {KEYED} {VALUED} (λ p q r h. h) _ (c.in_err-value.ensures.part k.still.sound) in\n"
         entry = f"""    {self.value()}    let s = entries_step g.R.Source {self.keys} {self.values} {MAP} {LOOP} {KEYED} {VALUED} r.pairs c.in-Some.key
     c.in_ok-value.value r.read k e.same_reference v u.same_reference in
@@ -81,13 +81,13 @@ class Map:
     c.in_ok-value.value r k e.same_reference v u.same_reference c.in_ok-insert.ensures.entries c.insert.ensures.ordered
     c.in_ok-insert.ensures.updates.0"""
         return {
-            "returns-in_err-pairs": TEXTS.fill("Map_terms_2", of=self.of),
+            "returns-in_err-pairs": TEXTS.fill("map_unopened", of=self.of),
             "loop-entries-init": f"""let o = {OPENED} in
     gathers_start g.R.Source {self.order.total} {self.keys} {self.values} _ _ o.at_key o.opened c.new-entries.ensures.empty""",
             **self.refusals(),
             "loop-entries-preserved": f"{self.value()}    {more}",
             "end-requires": f"{self.over()}    λ _. ap (λ a. a.owes) n ∙ r.read.at_key",
-            "returns": TEXTS.fill("Map_terms", over=self.over(), start=self.start, LOOP=LOOP, OPENED=OPENED),
+            "returns": TEXTS.fill("map_done", over=self.over(), start=self.start),
             "returns-in_err-end": f"""{self.over()}    let d = (c.in_err-end.ensures.err (subst IsMapOpen (sym n) r.read.run.still)).0 in
     absurd (omega (arith, z, d, ap (λ a. a.left) n))""",
         }

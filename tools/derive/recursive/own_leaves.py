@@ -49,8 +49,8 @@ def enum_laws(part: Part) -> str:
         some += f"{low}_some {value} = refl\n"
         others += f"  {low}_other {value} = bare_other s {key}\n"
         rows += f"  {low}_row {value} fits = bare_row s {low}_names {key} {at} refl _ (refl, tt)\n"
-        onlys += TEXTS.fill("enum_laws", low=low, value=value, key=key, at=at, name=name)
-    return TEXTS.fill("enum_laws_2", low=low, name=name, some=some, others=others, rows=rows, onlys=onlys)
+        onlys += TEXTS.fill("variant_only", low=low, value=value, key=key, at=at, name=name)
+    return TEXTS.fill("enum_laws", low=low, name=name, some=some, others=others, rows=rows, onlys=onlys)
 
 
 # ---- a struct

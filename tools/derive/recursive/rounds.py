@@ -123,19 +123,25 @@ def back_row(level: Level, at: int, shape: Shape, part: Optional[Part], values: 
 
 def back_of(level: Level) -> list[tuple[str, str]]:
     """No value is refused; what it lowers to is read as it; and it is never nil."""
-    name, low = level.name, level.low
     laws = zip(*(back_variant(level, at, shape, part) for at, (shape, part) in enumerate(level.variants)))
     some, rounds, other = ("".join(lines) for lines in laws)
-    mapped = f"map-{name} {name} (Option Data) {low}_data"
-    return [("DS", TEXTS.fill("back_of", level, mapped=mapped, some=some)), ("sD", TEXTS.fill("back_of_2", level, SETTINGS=SETTINGS, other=other, mapped=mapped)), ("sRDFB", TEXTS.fill("back_of_3", level, more=SETTINGS * bool(level.given), mapped=mapped, rounds=rounds))]
+    return [
+        ("DS", TEXTS.fill("some", level, some=some)),
+        ("sD", TEXTS.fill("never_nil", level, other=other)),
+        ("sRDFB", TEXTS.fill("round", level, settings=SETTINGS * bool(level.given), rounds=rounds)),
+    ]
 
 
 def only_of(level: Level) -> list[tuple[str, str]]:
     """Nothing else is read of what a value lowers to."""
-    name, low = level.name, level.low
-    mapped = f"map-{name} {name} (Option Data) {low}_data"
     lines = "".join(only_variant(level, at, shape, part, values) for at, (shape, part) in enumerate(level.variants) for values in cases(part))
-    return [("Q", TEXTS.fill("only_of", level, bound_kinds=bound_kinds(level))), ("D", TEXTS.fill("only_of_3", level, mapped=mapped)), ("sRDFQO", TEXTS.fill("only_of_2", level, SETTINGS=SETTINGS, bound_kinds=bound_kinds(level), mapped=mapped, lines=lines, bound=level.bound))]
+    only = TEXTS.fill("only", level, kinds=bound_kinds(level), lines=lines, bound=level.bound)
+    return [same_law(level), ("D", TEXTS.fill("by", level)), ("sRDFQO", only)]
+
+
+def same_law(level: Level) -> tuple[str, str]:
+    """What values of the same content are: they are written alike."""
+    return "Q", TEXTS.fill("same", level, bound=bound_kinds(level))
 
 
 def only_variant(level: Level, at: int, shape: Shape, part: Optional[Part], values: list[str]) -> str:
@@ -144,14 +150,14 @@ def only_variant(level: Level, at: int, shape: Shape, part: Optional[Part], valu
     made, of = level.made(shape, values), f"(codes \"{shape.key}\")"
     if part is None:
         holds = f"(AtPlace {at} AnyContent)"
-        return TEXTS.fill("only_variant", level, made=made, of=of, holds=holds, at=at, bound=level.bound)
+        return TEXTS.fill("bare_only", level, made=made, of=of, holds=holds, at=at, bound=level.bound)
     others, is_ = inside(part, "j.0"), at_value(level, shape, part, values)
     data = content_data(shape, [data_from(held, value) for held, value in zip(held_in(part), values)])
     row, same = (only_fields if part.named else only_row if part.held else only_value)(level, at, shape, part, values)
     back = f" ∙ sym ({low}_at_{shape.name} {' '.join(others)})" * is_apart(part)
     term = TEXTS.fill(
-        "only_variant_2", level, data=data, made=made, row=row, at=at, bound=level.bound, more=f'{is_} ∙ ' * bool(is_), same=same, back=back,
-        made_2=level.made(shape, others),
+        "variant_only", level, data=data, made=made, row=row, at=at, bound=level.bound, is_=f'{is_} ∙ ' * bool(is_), same=same, back=back,
+        other=level.made(shape, others),
     )
     holds = f"(λ d. LowersTo s d ({name}LevelOnly {made}))"
     return f"  {low}_level_only {made} h fit =\n      {carried(holds, is_, term)}\n"

@@ -61,7 +61,7 @@ class Row:
         for at in range(count):
             old, new, here = before(at), before(at + 1), f"c.{arm(at, 'Ok-Some')}"
             value = f"{here}.value"
-            text += TEXTS.fill("Row_runs", at=at, here=here, old=old, value=value, more=self.typed[at], new=new, more_2=at + 1, trees=trees(at))
+            text += TEXTS.fill("run", at=at, here=here, old=old, value=value, typed=self.typed[at], new=new, next=at + 1, trees=trees(at))
         return text
 
     def answer(self, goal: str, count: int, last: str, term: str, of: str = "", held: str = "") -> str:
@@ -69,7 +69,7 @@ class Row:
         answered with this arm."""
         name, arms = f"{self.fn}-{goal}", ["in-Ok", *[arm(at, "Ok-Some") for at in range(count)], *([arm(count, of)] if of else [])]
         same = " ∙ ".join(f"c.{it}.ensures.same_reference" for it in reversed(arms))
-        return TEXTS.fill("Row_answer", name=name, held=held, last=last, same=same, runs=self.runs(count), term=term)
+        return TEXTS.fill("answer", name=name, held=held, last=last, same=same, runs=self.runs(count), term=term)
 
     def known(self, at: int) -> str:
         """The part of what holds of all values that is said of one."""
@@ -82,13 +82,13 @@ class Row:
     def requires(self, at: int) -> str:
         """That a part has less room than the list."""
         name = f"{self.fn}-{numbered(f'{CALL}-requires', at)}"
-        return TEXTS.fill("Row_requires", name=name, runs=self.runs(at), before=before(at), at=at)
+        return TEXTS.fill("requires", name=name, runs=self.runs(at), before=before(at), at=at)
 
     def refused(self, at: int) -> str:
         """An element was refused."""
         old, new = before(at), before(at + 1)
         return self.answer(f"returns-{arm(at, 'Err')}", at, f"{new}.de.now", TEXTS.fill(
-            "Row_refused", arm=arm(at, 'Err'), old=old, at=at, more=self.typed[at], new=new, reads=self.reads, trees=trees(at),
+            "refused", arm=arm(at, 'Err'), old=old, at=at, typed=self.typed[at], new=new, reads=self.reads, trees=trees(at),
             read_of=self.read_of(at),
         ), "Err")
 
@@ -96,8 +96,8 @@ class Row:
         """The list has no more elements."""
         old, new, here = before(at), before(at + 1), f"c.{arm(at, 'Ok-None')}"
         return self.answer(f"returns-{arm(at, 'Ok-None')}", at, f"{new}.de.now", TEXTS.fill(
-            "Row_missing", here=here, old=old, new=new, at=at, reads=self.reads, trees=trees(at), more=self.typed[at], read_of=self.read_of(at),
-            more_2='.1' * at,
+            "missing", here=here, old=old, new=new, at=at, reads=self.reads, trees=trees(at), typed=self.typed[at], read_of=self.read_of(at),
+            ones='.1' * at,
         ), "Ok-None")
 
     def ends(self) -> str:
@@ -115,7 +115,7 @@ class Row:
 
     def text(self) -> str:
         unopened = f"{self.fn}-returns-in-Err"
-        lines = TEXTS.fill("Row_text", unopened=unopened, reads=self.reads)
+        lines = TEXTS.fill("unopened", unopened=unopened, reads=self.reads)
         for at, held in enumerate(self.part.held):
             lines += self.requires(at) * (not held.is_leaf) + self.refused(at) + self.missing(at)
         return lines + self.ends()

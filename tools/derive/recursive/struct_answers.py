@@ -77,7 +77,7 @@ class Place:
         value = f"c.in-Ok-{self.call}.value"
         after = slots_of([f"(Some {value})" if other == at else f"c.loop-fields.slot{other}" for other in range(len(level.fields))])
         return TEXTS.fill(
-            "Place_preserved", found=self.found(), call=self.call, new=self.new, name=level.name, at=at, law=self.law, value=value,
+            "preserved", found=self.found(), call=self.call, new=self.new, name=level.name, at=at, law=self.law, value=value,
             after_held=after_held(self.part, value), start=start(level, 'struct_step'), slots=slots(level), after=after, low=level.low,
         )
 
@@ -86,7 +86,7 @@ class Place:
         fact = (f"{read_law(level, 'struct_value')} c.loop-fields.fields r c.next_field_by.new.self\n          {self.new} {at} {level.name}Slot{at} _ p k.same k.same_reference"
                 f" failed\n          {left_as(level, ['q.same_reference', 'k.same_reference'])}\n          (λ fs v m h e. ({level.place(at, level.own())}, {level.low}_tree{at} fs v m h e))")
         return TEXTS.fill(
-            "Place_fails", found=self.found(), call=self.call, new=self.new, name=level.name, at=at, law=self.law, refused=refused(level, fact),
+            "fails", found=self.found(), call=self.call, new=self.new, name=level.name, at=at, law=self.law, refused=refused(level, fact),
         )
 
     def requires(self) -> str:
@@ -94,7 +94,7 @@ class Place:
         e, facts = "e : steps_at p.now ≡ steps_at d = ap steps_at q", "h, e, c.decreases"
         if isinstance(self.level, Content):
             e, facts = "e = ap (λ (z : _). max 1 z.room) q", "h, at_most c.args.de.now.kept, e, c.decreases"
-        return TEXTS.fill("Place_requires", arm=self.arm, low=self.level.low, e=e, facts=facts)
+        return TEXTS.fill("requires", arm=self.arm, low=self.level.low, e=e, facts=facts)
 
     def answers(self) -> str:
         fn = self.level.reader
@@ -128,7 +128,7 @@ def missing_answer(level: Level, at: int) -> str:
     fact = (f"{read_law(level, 'struct_missing')} c.next_field_by.new.self d _\n          (via c.{call}.new.self.de.now {left}\n          (ap (λ a. a.de.now) e.3 ∙ ap (λ a. a.de.now) same))"
             f"\n          ({level.low}_gap{at} {all_slots} e.0) (λ m fs v h q. {lacks})")
     return answer(f"{level.reader}-returns-in-Err-{call}", TEXTS.fill(
-        "missing_answer", RUN=RUN, format=MET.format(low=level.low, name=level.name, slots=all_slots), before=before, same_until=same_until(at),
+        "missing_answer", RUN=RUN, met=MET.format(low=level.low, name=level.name, slots=all_slots), before=before, same_until=same_until(at),
         call=call, refused=refused(level, fact),
     ))
 

@@ -39,8 +39,8 @@ def held_lines(level: Level) -> str:
     for at in range(count - 1, -1, -1):
         part = level.fields[at][1]
         lines += TEXTS.fill(
-            "held_lines", level, at=at, term=part.term, format=part.reads.format(reads=level.reads, k='m', a='a'), slots_type=slots_type(level, at),
-            more=at + 1,
+            "held_lines", level, at=at, term=part.term, reads=part.reads.format(reads=level.reads, k='m', a='a'), slots_type=slots_type(level, at),
+            next=at + 1,
         )
     return lines
 

@@ -4,8 +4,8 @@ from __future__ import annotations
 from ..flat.terms import chained
 from .fields import missing, there
 from .levels import Level, file_of, places_of
-from .rounds import both_fields, facts_of, field_rows, only_parts, places_in, row_proofs, some_facts
-from .given import SETTINGS, bound_kinds, words_of
+from .rounds import both_fields, facts_of, field_rows, only_parts, places_in, row_proofs, same_law, some_facts
+from .given import SETTINGS, words_of
 from .structs import own_fields, own_pairs, sections
 from shared.texts import Texts
 
@@ -28,7 +28,12 @@ def back_of(level: Level) -> list[tuple[str, str]]:
     fields, parts = zip(*level.fields)
     reads, absent = zip(*((there(level, at, f"Is{name}", own), missing(level, at, own)) for at in range(len(fields))))
     rows = field_rows(fields, reads, absent, row_proofs(parts, values_of(level, own)))
-    return [("DS", TEXTS.fill("back_of", level, own_pairs=own_pairs(level, own), some_facts=some_facts(parts, values_of(level, own)))), ("sD", TEXTS.fill("back_of_2", level, SETTINGS=SETTINGS, own_pairs=own_pairs(level, own))), ("sRDFB", TEXTS.fill("back_of_3", level, more=SETTINGS * bool(level.given), own=own, own_pairs=own_pairs(level, own), rows=rows))]
+    pairs = own_pairs(level, own)
+    return [
+        ("DS", TEXTS.fill("some", level, pairs=pairs, facts=some_facts(parts, values_of(level, own)))),
+        ("sD", TEXTS.fill("never_nil", level, pairs=pairs)),
+        ("sRDFB", TEXTS.fill("round", level, settings=SETTINGS * bool(level.given), own=own, pairs=pairs, rows=rows)),
+    ]
 
 
 def only_of(level: Level) -> list[tuple[str, str]]:
@@ -40,7 +45,8 @@ def only_of(level: Level) -> list[tuple[str, str]]:
     told, proofs = only_parts(facts, parts, values)
     alike = [f"({part.alike_by(*it)}) i" for part, *it in zip(parts, values, others, [f"({it})" for it in places_in("x", len(parts))], places_of("fit", len(parts)))]
     both = f"(λ fs i j. let x = {both_fields(facts, values, others)} fs i j in (λ i. structure_of ({own_fields(level, alike)})))"
-    return [("Q", TEXTS.fill("only_of", level, bound_kinds=bound_kinds(level))), ("sRDFQO", TEXTS.fill(
-    "only_of_2", level, SETTINGS=SETTINGS, own=own, own_pairs=own_pairs(level, own), chained=chained([f'Field {it} ⊥' for it in told], 'NoField'),
-    field_rows=field_rows(fields, told, ['⊥'] * len(fields), proofs), bound=level.bound, both=both,
-))]
+    only = TEXTS.fill(
+        "only", level, own=own, pairs=own_pairs(level, own), reads=chained([f"Field {it} ⊥" for it in told], "NoField"),
+        rows=field_rows(fields, told, ["⊥"] * len(fields), proofs), bound=level.bound, both=both,
+    )
+    return [same_law(level), ("sRDFQO", only)]

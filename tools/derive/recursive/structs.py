@@ -6,7 +6,7 @@ from .fields import counted_lines, from_lines, names_lines, pairs_of, wider_line
 from .given import in_order
 from .leaves import Part
 from .shapes import HERE
-from .levels import Again, Level, called, data_from, file_of, inductive, is_mapped, is_option, term_at
+from .levels import Again, Level, called, data_from, file_of, fits_of, inductive, is_mapped, is_option, term_at
 from shared.texts import Texts
 
 TEXTS = Texts(__file__)
@@ -14,7 +14,7 @@ TEXTS = Texts(__file__)
 
 def shape_of(level: Level) -> str:
     """What it is read from, by steps."""
-    return TEXTS.fill("shape_of", level, names_lines=names_lines(level), from_lines=from_lines(level))
+    return TEXTS.fill("shape_of", level, names=names_lines(level), fields=from_lines(level))
 
 
 def with_option(field: Field) -> str:
@@ -31,14 +31,14 @@ def written_of(level: Level) -> list[tuple[str, str]]:
     """What it is written as, level by level, and what is known of it."""
     data = [part.data.format(a=f"v.{field.name}") for field, part in level.fields]
     fits = [f"({part.fits.format(a=f'v.{field.name}', fits='fits').replace(HERE, 'X')})" for field, part in level.fields]
-    return [("D", TEXTS.fill("written_of", level, own_fields=own_fields(level, data))), ("F", TEXTS.fill("written_of_2", level, rest=' × '.join(fits)))]
+    return [("D", TEXTS.fill("data_of", level, data=own_fields(level, data))), fits_of(level, f"{level.low}_layer_fits X at fits v = {' × '.join(fits)}\n")]
 
 
 def steps_of(level: Level) -> str:
     """One step of its reading by what its parts are read from."""
     name = level.name
     fields = f"{name}Fields"
-    return TEXTS.fill("steps_of", level, wider_lines=wider_lines(level), fields=fields, counted_lines=counted_lines(level))
+    return TEXTS.fill("steps_of", level, wider=wider_lines(level), fields=fields, counted=counted_lines(level))
 
 
 def again_of(level: Level) -> list[tuple[Field, Again]]:
@@ -59,7 +59,7 @@ def option_lines(level: Level) -> str:
         if part.inner:
             lines += composed_lines(level, field, part)
             continue
-        lines += TEXTS.fill("option_lines", level, of=of, made=made)
+        lines += TEXTS.fill("option_holds", level, field=of, made=made)
     return lines
 
 
@@ -78,7 +78,7 @@ def through_options(level: Level, field: Field, part: Again) -> str:
     name, of, at = level.name, field.name, f"{level.low}_through_{field.name}"
     known = known_at(level, part, f"y.{of}", f"(map-{name} X {name} at y).{of}")
     return TEXTS.fill(
-        "through_options", level, at=at, more=known[0], more_2=known[1], removesuffix=called(part.patterns[0][2], f'y.{of}').removesuffix(' i'),
+        "through_options", level, at=at, known=known[0], mapped=known[1], through=called(part.patterns[0][2], f'y.{of}').removesuffix(' i'),
     )
 
 
@@ -87,8 +87,8 @@ def mapped_options(level: Level, field: Field, part: Again) -> str:
     name, low, of, at = level.name, level.low, field.name, f"{level.low}_mapped_{field.name}"
     word, _, path = part.mapped.format(a=f"y.{of}").removesuffix(" i)").partition(" (")
     return TEXTS.fill(
-        "mapped_options", level, at=at, format=part.data.format(a=f'(map-{name} {name} (Option Data) {low}_data y).{of}'),
-        format_2=part.own.format(a=f'y.{of}'), word=word, path=path,
+        "mapped_options", level, at=at, data=part.data.format(a=f'(map-{name} {name} (Option Data) {low}_data y).{of}'),
+        own=part.own.format(a=f'y.{of}'), word=word, path=path,
     )
 
 
@@ -141,8 +141,8 @@ def own_of(level: Level) -> str:
         if is_option(part):
             at = f"{low}_at_{field.name}"
             lines += TEXTS.fill(
-                "own_of", level, at=at, term=part.term, format=part.data.format(a=f'({mapped} {with_option(field)}).{field.name}'),
-                data_from=data_from(part, 'o'),
+                "option_data", level, at=at, term=part.term, mapped=part.data.format(a=f'({mapped} {with_option(field)}).{field.name}'),
+                data=data_from(part, 'o'),
             )
             data[-1] = f"{at} {own} {own}.{field.name} i"
         elif is_of_options(part):
@@ -151,7 +151,7 @@ def own_of(level: Level) -> str:
         elif is_mapped(part):
             data[-1] = part.mapped.format(a=f"{own}.{field.name}")
     is_ = f"{low}_is v ∙ (λ i. structure_of ({own_fields(level, data)}))" if lines or any(is_mapped(part) for _, part in level.fields) else f"{low}_is v"
-    return TEXTS.fill("own_of_2", level, lines=lines, own_pairs=own_pairs(level, 'x'), own=own, is_=is_)
+    return TEXTS.fill("own_of", level, lines=lines, pairs=own_pairs(level, 'x'), own=own, is_=is_)
 
 
 def sections(level: Level) -> list[tuple[str, str]]:
