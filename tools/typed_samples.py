@@ -24,19 +24,6 @@ from testing.model import heads
 # About how many lines the statements of a function take.
 LINES = 22
 
-# Each setting of the sample, and then the form that it is of, where that has another name.
-SETTINGS = {
-    "default": "Default",
-    "named": "Named",
-    "named,tuple": "NamedTuple",
-    "tuple,named": "TupleNamed",
-    "human": "Human",
-    "ForceIterables": "ForceIterables",
-    "ForceAll": "ForceAll",
-    "named,ForceIterables": "NamedForceIterables",
-    "named,ForceAll": "NamedForceAll",
-}
-FORMS = {"Default": "Plain", "ForceIterables": "Plain", "ForceAll": "Plain", "NamedForceIterables": "Named", "NamedForceAll": "Named"}
 NUMBERS = "u8 u16 u32 u64 u128 usize i8 i16 i32 i64 i128 isize".split()
 # Where the names of types come from. Those of the program's own types are found in src/types.rt.
 HOMES = {
@@ -263,15 +250,21 @@ def quoted(text):
     return '"' + text.replace("\\", "\\\\").replace('"', '\\"') + '"'
 
 
+def setting_of(words):
+    """The setting of these words of the sample, and the form that it is of, which doesn't say what is forced."""
+    name = "".join(word[0].upper() + word[1:] for word in words.split(","))
+    return name, re.sub(r"Default|Force\w+", "", name) or "Plain"
+
+
 def statements(kind, value, rows, shapes):
     body = Body(shapes)
     made = body.value(kind, value)
     name = made if re.fullmatch(r"value_\d+", made) else body.let(made, kind=kind if kind.startswith("Option") else None)
-    settings = [SETTINGS[setting] for setting, _ in rows]
-    for form in dict.fromkeys(FORMS.get(setting, setting) for setting in settings):
-        of = ", ".join(f"Setting::{setting}" for setting in settings if FORMS.get(setting, setting) == form)
+    settings = [setting_of(words) for words, _ in rows]
+    for form in dict.fromkeys(form for _, form in settings):
+        of = ", ".join(f"Setting::{setting}" for setting, its in settings if its == form)
         body.lines.append(f"rows.add::<{form}, _>({quoted(kind)}, {quoted(value)}, &[{of}], &{name})?;")
-    if "Default" in settings:
+    if ("Default", "Plain") in settings:
         body.lines.append(f"rows.fill(&{name})?;")
     return body
 

@@ -6,19 +6,7 @@ from shared.texts import Texts
 
 TEXTS = Texts(__file__)
 
-ROUNDS_HEAD = """//! Tuples. Written by tools/tuples.py.
-ghost use Rattle.std.specs.Prelude.{◌∷◌, ◌||◌, [], true};
-ghost use Rattle.rmp_encode.specs.Trees.{tuple_of};
-ghost use Rattle.rmp_round_trip.specs.AlikeOrder.{then_tied};
-ghost use Rattle.rmp_round_trip.specs.OnlyRows.{item_only, last_only, lowers_then, row_both};
-ghost use Rattle.rmp_round_trip.specs.RoundTrip.{Only};
-ghost use Rattle.rmp_round_trip.specs.Rounds.{rows_none, rows_cons, parts_none, parts_cons, tuple_some, tuple_row, tuple_other, first_lent, second_lent};
-
-use crate::round_trip::{ContentOrd, NeverNil, RoundTrip};
-use rmp_decode::Deserialize;
-use rmp_encode::Serialize;
-use rmp_wire::ReadSlice;
-"""
+ROUNDS_HEAD = TEXTS.fill("rounds_head")
 
 
 def rows(facts: list[tuple[str, str]]) -> str:
@@ -51,14 +39,7 @@ def rounds(count: int) -> str:
     )
 
 
-ENDS_HEAD = """//! Tuples. Written by tools/tuples.py.
-ghost use Rattle.std.specs.Prelude.{◌∷◌, []};
-ghost use Rattle.rmp_decode.specs.Refusing.{part_of};
-ghost use Rattle.rmp_ends.specs.RowEnds.{tuple_inside};
-
-use crate::ends_inside::EndsInside;
-use rmp_wire::ReadSlice;
-"""
+ENDS_HEAD = TEXTS.fill("ends_head")
 
 
 def ends(count: int) -> str:

@@ -13,18 +13,7 @@ from shared.texts import Texts
 
 TEXTS = Texts(__file__)
 
-TUPLES_HEAD = """//! Tuples, from lists of as many elements, or bytes of as many. Written by tools/tuples.py.
-ghost use Rattle.std.specs.Prelude.{◌||◌, None, [], ◌∷◌};
-ghost use Rattle.rmp_decode.specs.Refusing.{part_of, RefusesTuple};
-ghost use Rattle.rmp_decode.specs.Rows.{AndThen, NoMore};
-ghost use Rattle.rmp_decode.specs.Seq.{OfRow};
-
-use crate::de::Deserialize;
-use crate::deserializer::Deserializer;
-use crate::error::Error;
-use rmp_wire::ReadSlice;
-use rmp_wire::config::SerializerConfig;
-"""
+TUPLES_HEAD = TEXTS.fill("tuples_head")
 USES = {
     "std.proofs.Common": "◌||◌",
     "rmp_decode.proofs.Laws": "lawful_ok lawful_err",
@@ -86,26 +75,8 @@ def uses_of_fields() -> str:
     return "".join(f"ghost use Rattle.rmp_decode.specs.ReadFields.{{{', '.join(names[at : at + 8])}}};\n" for at in range(0, len(names), 8))
 
 
-FIELDS_HEAD = f"""//! Reads of 2 to 12 fields, whose contracts name each field's part in one list. Written by tools/tuples.py.
-ghost use Rattle.std.specs.Option.{{is_none}};
-ghost use Rattle.std.specs.Prelude.{{◌≡◌, ◌∷◌, [], length}};
-ghost use Rattle.rmp_decode.specs.FieldRefusing.{{RefusesFields}};
-ghost use Rattle.rmp_decode.specs.Fields.{{OfFields}};
-ghost use Rattle.rmp_decode.specs.Law.{{Lawful}};
-ghost use Rattle.rmp_decode.specs.Names.{{bytes_of}};
-ghost use Rattle.rmp_decode.specs.Refusing.{{RefusesAs, part_of}};
-{uses_of_fields()}
-use crate::de::Deserialize;
-use crate::deserializer::Deserializer;
-use crate::error::Error;
-use rmp_wire::ReadSlice;
-use rmp_wire::config::SerializerConfig;
-"""
-FIELDS_SPECS = """-- Which trees of so many fields, each there or missing, are read as which values, by those of the fields' types. Written by tools/tuples.py.
-use Rattle.std.specs.Prelude.{Bool, List, Option}
-use Rattle.rmp_wire.specs.Msg.{Msg}
-use Rattle.rmp_decode.specs.Fields.{Field, Absent, NoField}
-"""
+FIELDS_HEAD = TEXTS.fill("fields_head", uses_of_fields=uses_of_fields())
+FIELDS_SPECS = TEXTS.fill("fields_specs")
 
 
 def value(kinds: list[str]) -> str:
@@ -123,10 +94,7 @@ def reads_fields(count: int) -> str:
     given = " → ".join(f"(Bool → Bool → Msg → {kind} → Type 0) → Option {kind}" for kind in kinds)
     words = " ".join(f"r{at} a{at}" for at in places)
     fields = chained([f"Field (λ j. r{at} human lends j v{place_of(at, count)}) (Absent a{at} v{place_of(at, count)})" for at in places], "NoField")
-    return f"""
-abbrev pub reads_{count} : {{{' '.join(kinds)} : Type 0}} → {given} → Bool → Bool → List (Option Msg) → {value(kinds)} → Type 0
-reads_{count} {words} human lends fs v = {fields} fs
-"""
+    return TEXTS.fill("reads_fields", count=count, rest=' '.join(kinds), given=given, value=value(kinds), words=words, fields=fields)
 
 
 def read_fields(count: int) -> str:

@@ -19,24 +19,7 @@ def rule(count: int) -> str:
 
 
 RULES = "".join(rule(n + 1) for n in range(len(NAMES) - 1))
-ELEMENTS_HEAD = f"""//! One to eight elements of several types. Written by tools/tuples.py.
-ghost use Rattle.std.specs.Prelude.{{◌∷◌, [], refl}};
-ghost use Rattle.rmp_encode.specs.Markers.{{value_of}};
-ghost use Rattle.rmp_encode.specs.Sizes.{{one_of}};
-
-use crate::elements::Elements;
-use crate::elements::rows::{{Row, add_then, write_fields_then, write_then}};
-use crate::error::Error;
-use crate::ser::Serialize;
-use crate::serializer::Serializer;
-use crate::tuple::Tuple;
-use rmp_wire::Sink;
-use rmp_wire::config::SerializerConfig;
-
-// These references as elements.
-macro_rules! row {{
-{RULES}}}
-"""
+ELEMENTS_HEAD = TEXTS.fill("elements_head", RULES=RULES)
 WORDS = ["One element", "Two elements", "Three elements", "Four elements", "Five elements", "Six elements", "Seven elements", "Eight elements"]
 
 
@@ -59,22 +42,7 @@ def elements(count: int) -> str:
     )
 
 
-TUPLES_HEAD = """//! Tuples of one to eight elements. Written by tools/tuples.py.
-//!
-//! In the modes `Normal` and `ForceIterables` writing them takes no memory but by their elements and the sink.
-ghost use Rattle.std.specs.Prelude.{◌∷◌, ◌||◌, []};
-ghost use Rattle.rmp_encode.specs.Refusals.{OfParts};
-ghost use Rattle.rmp_encode.specs.Sizes.{one_of};
-ghost use Rattle.rmp_encode.specs.Trees.{forces_all, tuple_of};
-
-use crate::elements::{Both, Eight, Five, Four, One, Seven, Six, Three};
-use crate::error::Error;
-use crate::ser::Serialize;
-use crate::serializer::Serializer;
-use crate::tuple::put_row;
-use rmp_wire::Sink;
-use rmp_wire::config::SerializerConfig;
-"""
+TUPLES_HEAD = TEXTS.fill("tuples_head")
 
 
 def tuples(count: int) -> str:
