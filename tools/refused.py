@@ -33,7 +33,7 @@ sys.dont_write_bytecode = True
 from archive import CRATES, copied, every_crate, kit_folder, not_new, words
 from shared.crates import below
 from shared.files import read, write
-from testing.edit import Edit, edits_of
+from testing.edit import edits_of
 from testing.evidence import counted, in_words
 from testing.failing import say_failing
 

@@ -8,7 +8,8 @@ from ..table.types import Shape
 from .holder_answers import answer, answers_file, held_answers, left_under, measures_file
 from .holders import values_in
 from .leaves import Part, put_in
-from .levels import Again, Level, after_held, brought_in, called, has_map, held_in, inside, is_apart, is_map, named_in
+from .forms import Again
+from .levels import Level, after_held, brought_in, called, has_map, held_in, inside, is_apart, is_map, named_in
 from .struct_answers import TAKES, fields_measures, struct_answers
 from .struct_proofs import fields_proofs, proof_tables
 from .enums import sections

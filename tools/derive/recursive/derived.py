@@ -24,7 +24,8 @@ from . import answers, code, enums, given, rounds, struct_answers, struct_proofs
 from .holders import by_parts, leaf_readers, lent, reading
 from .holders import rounds as round_trip
 from .leaves import Part
-from .levels import AGAIN, BOX, MAPS, ORDERS, Level
+from .forms import AGAIN, BOX, MAPS, ORDERS
+from .levels import Level
 from .own_leaves import leaf_file
 
 if TYPE_CHECKING:

@@ -10,7 +10,8 @@ from .fields import counted_lines, from_lines, names_lines, pairs_of, wider_line
 from .given import in_order
 from .leaves import Part
 from .shapes import HERE
-from .levels import Again, Content, Level, called, cases, cases_of, data_from, each, file_of, fits_of, has_map, held_in, inductive, inside
+from .forms import Again
+from .levels import Content, Level, called, cases, cases_of, data_from, each, file_of, fits_of, has_map, held_in, inductive, inside
 from .levels import is_apart, is_mapped, named_in, peano, product, wider
 from shared.terms import bracketed
 from shared.texts import Texts

@@ -6,7 +6,8 @@ from collections.abc import Iterable
 from ..table.types import Field
 from ..flat.terms import codes
 from .leaves import put_in
-from .levels import Again, Level, wider
+from .forms import Again
+from .levels import Level, wider
 from shared.terms import list_of
 from shared.texts import Texts
 

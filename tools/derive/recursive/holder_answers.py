@@ -6,7 +6,8 @@ from ..words import TABLES, filled, joined
 from .given import answered
 from .holders import holder
 from .leaves import Part
-from .levels import Again, Level, brought_in, is_map, tables
+from .forms import Again
+from .levels import Level, brought_in, is_map, tables
 from .map_answers import map_answers, map_measures
 from .row_answers import row_answers
 from shared.texts import Texts

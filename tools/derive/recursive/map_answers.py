@@ -2,7 +2,8 @@
 from __future__ import annotations
 
 from .holders import holder
-from .levels import Again, Level, map_order
+from .forms import Again
+from .levels import Level, map_order
 from shared.texts import Texts
 
 TEXTS = Texts(__file__)

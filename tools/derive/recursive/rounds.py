@@ -10,7 +10,8 @@ from .enums import content_data, row_reads, sections
 from .fields import pairs_of
 from .given import SETTINGS, bound_kinds, words_of
 from .leaves import Part, put_in
-from .levels import Again, Level, at_value, cases, data_from, each, file_of, held_in, inside, is_apart, named_in, places_of, reading, same_of
+from .forms import Again
+from .levels import Level, at_value, cases, data_from, each, file_of, held_in, inside, is_apart, named_in, places_of, reading, same_of
 from shared.terms import bracketed
 from shared.texts import Texts
 

@@ -6,7 +6,8 @@ from collections.abc import Iterable
 from .holders import holder
 from .enums import row_reads
 from .leaves import Part
-from .levels import Again, Level, after_held, inside
+from .forms import Again
+from .levels import Level, after_held, inside
 from shared.terms import numbered
 from shared.texts import Texts
 

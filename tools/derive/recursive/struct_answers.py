@@ -6,7 +6,8 @@ from ..flat.terms import nested, place_of
 from .given import answered
 from .holder_answers import answer, goals_of, left_under, loop_measures
 from .leaves import put_in
-from .levels import Again, Content, Level, after_held, brought_in, each, tables
+from .forms import Again
+from .levels import Content, Level, after_held, brought_in, each, tables
 from .struct_proofs import slots_of
 from shared.terms import numbered
 from shared.texts import Texts

@@ -6,7 +6,8 @@ from .fields import counted_lines, from_lines, names_lines, pairs_of, wider_line
 from .given import in_order
 from .leaves import Part
 from .shapes import HERE
-from .levels import Again, Level, called, data_from, file_of, fits_of, inductive, is_mapped, is_option, term_at
+from .forms import Again
+from .levels import Level, called, data_from, file_of, fits_of, inductive, is_mapped, is_option, term_at
 from shared.texts import Texts
 
 TEXTS = Texts(__file__)
