@@ -6,8 +6,6 @@ Says which edit or twin can't be applied, since a text that it replaces isn't ex
 doesn't say where it is refused, which names a test that isn't there, and which public function of the libraries has none. The status is 0
 where nothing is said.
 
-The gate reads no other lines than 'file:', 'old:' and 'new:', so the rest of an edit of must-fail/ has a '# ' in front.
-
 An edit counts for the functions of its name, or, with the name of a type in front, as Type_function__what, for that type's.
 A function needs none that has no body, as a law, that answers a field or makes a struct of one, or whose body is that of
 another by ALIKE.
@@ -16,124 +14,20 @@ import os
 import re
 import sys
 
-TOP = os.path.join(os.path.dirname(os.path.abspath(__file__)), "..")
-CRATES = os.path.join(TOP, "crates")
-EDITS = os.path.join(TOP, "tests", "edits")
-CALLS = os.path.join(TOP, "tests", "programs", "calls")
+sys.dont_write_bytecode = True
+from shared.crates import CRATES
+from shared.files import files_below, read
+from testing.edit import edits_of
+
 LIBRARIES = "rmp_wire rmp_encode rmp_decode rmp_scan rmp_ends rmp_path rmp_round_trip rmp_types rmp_serde canon_lines rmp_c".split()
-# Functions whose body is another's, but for a width, a kind or a constant, or a call of it.
-ALIKE = {
-    "IoSink_new": "IoSource_new",
-    "number_8": "number_16",
-    "number_32": "number_16",
-    "write_f64_bits": "write_f32_bits",
-    "write_map_len": "write_array_len",
-    "serialize_u8": "serialize_u64",
-    "serialize_u16": "serialize_u64",
-    "serialize_u32": "serialize_u64",
-    "serialize_i8": "serialize_i64",
-    "serialize_i16": "serialize_i64",
-    "serialize_i32": "serialize_i64",
-    "serialize_f64_bits": "serialize_f32_bits",
-    "deserialize_i16": "deserialize_i8",
-    "deserialize_i32": "deserialize_i8",
-    "deserialize_i64": "deserialize_i8",
-    "deserialize_f64_bits": "deserialize_f32_bits",
-    "deserialize_tuple_struct": "deserialize_tuple",
-    **{f"read_fields_{count}": "read_fields_2" for count in range(3, 13)},
-    "deserialize_enum_by": "deserialize_enum",
-    "deserialize_option_with": "deserialize_option",
-    "newtype_variant_with": "newtype_variant",
-    "next_key": "next_value",
-    "next_key_with": "next_value_with",
-    "missing_field_or": "missing_field",
-    "with_binary": "with_human_readable",
-    "with_struct_tuple": "with_struct_map",
-    "from_read_ref": "from_slice",
-    "serialize_some": "serialize_newtype_struct",
-    "as_f64_bits": "as_f32_bits",
-    "is_err": "is_str",
-}
+# Functions whose body is another's: that of each.
+ALIKE = {name: other for other, names in re.findall(r"^(\w+): (.*)$", read("tools", "edits_alike.txt"), re.M) for name in names.split()}
 FUNCTION = re.compile(r"^impl\b[^{;]*|^(?:pub )?trait [^{;]*|^\}|^ *(pub )?(?:const )?(?:extern \"C\" )?fn (\w+)", re.M)
 # Nothing, a field or a reference to one, or a struct of what is given, with nothing read or written.
 PLAIN = re.compile(
     r"|(&(mut )?)?self(\.\w+)+(\.(as_slice|get_ref|get_mut|into_inner)\(\))?|\w+ \{ \w+(: self)? \}"
     r"|(AheadSource|BufSource|ReadReader) \{\s*\w+(: \w+::new\(\w+\))?,(\s*\w+: \w+::new\(\w+\),)?\s*\}?"
 )
-
-
-def read(path):
-    with open(path, encoding="utf-8") as file:
-        return file.read()
-
-
-def files(folder, ending):
-    for at, _, names in sorted(os.walk(folder)):
-        for name in sorted(names):
-            if name.endswith(ending):
-                yield os.path.join(at, name)
-
-
-def lines_of(edit):
-    """Each line of an edit, as its word and what is after it."""
-    for line in read(edit).split("\n"):
-        word, _, rest = line.removeprefix("# ").partition(":")
-        yield word, rest.removeprefix(" ")
-
-
-def pairs(edit, wanted="new"):
-    """The file, the text and its replacement, of each pair of an edit, or of its twin."""
-    path = old = None
-    for word, rest in lines_of(edit):
-        if word == "file":
-            path = rest.strip()
-        elif word == "old":
-            old = rest
-        elif word == wanted:
-            yield path, old, rest
-
-
-def twin(edit):
-    """The pairs of an edit's twin, a body of the right meaning: those that have a line 'twin:' after their 'new:'."""
-    return pairs(edit, "twin")
-
-
-def tests(edit):
-    """The names of the tests that fail with an edit's body."""
-    return [rest.strip() for word, rest in lines_of(edit) if word == "test"]
-
-
-def refusals(edit):
-    """Each function that an edit says to be refused, and the goals that are open there."""
-    for word, rest in lines_of(edit):
-        if word == "refused":
-            function, *goals = rest.split()
-            yield function, goals
-
-
-def says_where(edit):
-    goals = [goals for _, goals in refusals(edit)]
-    return bool(goals) and all(goals)
-
-
-def edits_of(crate):
-    """The edits of a crate that tools/refused.py tries, and those that the gate does."""
-    return [*files(os.path.join(EDITS, crate), ".edit")], [*files(os.path.join(CRATES, crate, "must-fail"), ".edit")]
-
-
-def misapplied(crate, replaced):
-    """Which texts of an edit or a twin aren't there exactly once, each in what the earlier pairs made."""
-    texts = {}
-    for path, old, new in replaced:
-        whole = os.path.join(CRATES, crate, path)
-        if path not in texts:
-            texts[path] = read(whole) if os.path.isfile(whole) else ""
-        found = texts[path].count(old)
-        if found != 1:
-            yield f"{path} has this {found} times: {old}"
-        if old.split() == new.split():
-            yield f"{path} has the same before and after: {old}"
-        texts[path] = texts[path].replace(old, new)
 
 
 def body_of(text, at):
@@ -153,7 +47,7 @@ def type_of(head):
 
 def public_functions(crate):
     """Each public function outside of tests: its type, its name and its body."""
-    for path in files(os.path.join(CRATES, crate, "src"), ".rt"):
+    for path in files_below("crates", crate, "src", ending=".rt"):
         if "tests" in os.path.relpath(path, CRATES):
             continue
         text = re.sub(r"^ *//.*$", "", read(path), flags=re.M)
@@ -174,24 +68,21 @@ def without_edit(crate, names):
 
 def written_tests():
     """The names of the tests of tests/programs/calls."""
-    return {name for path in files(CALLS, ".rs") for name in re.findall(r"#\[test\]\s+fn (\w+)", read(path))}
+    return {name for path in files_below("tests", "programs", "calls", ending=".rs") for name in re.findall(r"#\[test\]\s+fn (\w+)", read(path))}
 
 
 def main():
     said, written = [], written_tests()
     for crate in sorted(os.listdir(CRATES)):
         names = set()
-        of_tests, of_gate = edits_of(crate)
-        for edit in [*of_tests, *of_gate]:
-            name = os.path.basename(edit)[: -len(".edit")]
-            names.add(name.partition("__")[0])
-            if not re.fullmatch(r"\w+?__\w+", name):
-                said.append(f"{crate}/{name}: its name isn't FUNCTION__WHAT")
-            said += [f"{crate}/{name}: {why}" for why in misapplied(crate, pairs(edit))]
-            said += [f"{crate}/{name}, its twin: {why}" for why in misapplied(crate, twin(edit))]
-            said += [f"{crate}/{name}: its twin is itself" for it in [[*pairs(edit)]] if it == [*twin(edit)]]
-            said += [f"{crate}/{name}: there is no test {it}" for it in tests(edit) if it not in written]
-            said += [] if says_where(edit) or edit in of_gate else [f"{crate}/{name}: no line says where it is refused"]
+        for edit in edits_of(crate):
+            names.add(edit.name.partition("__")[0])
+            wrong = [] if re.fullmatch(r"\w+?__\w+", edit.name) else [": its name isn't FUNCTION__WHAT"]
+            wrong += [f": {why}" for why in edit.misapplied()] + [f", its twin: {why}" for why in edit.twin.misapplied()]
+            wrong += [": its twin is itself"] * (edit.pairs == edit.twin.pairs)
+            wrong += [f": there is no test {it}" for it in edit.tests if it not in written]
+            wrong += [] if edit.says_where() or edit.is_of_gate else [": no line says where it is refused"]
+            said += [f"{crate}/{edit.name}{why}" for why in wrong]
         if crate in LIBRARIES:
             said += [f"{crate}: {name} has no edit" for name in without_edit(crate, names)]
     print("\n".join(said) or "each edit can be applied, and each public function has one")

@@ -21,7 +21,6 @@ passed, M failed'.
 import argparse
 import collections
 import concurrent.futures
-import dataclasses
 import os
 import re
 import subprocess
@@ -33,8 +32,9 @@ import time
 sys.dont_write_bytecode = True
 from archive import CRATES, copied, every_crate, kit_folder, not_new, words
 from shared.crates import below
-from edits import edits_of, pairs, refusals, twin
-from testing.evidence import counted, every_edit, in_words, name_of
+from shared.files import read, write
+from testing.edit import edits_of
+from testing.evidence import counted, in_words
 from testing.failing import say_failing
 
 # An error at a goal of a function's proof file, and the goals that are open where there is no file or it doesn't have them.
@@ -50,55 +50,36 @@ BEGINS = threading.Lock()
 FAULT = re.compile(r"\S+:\d+:\d+: error\[[\w-]+\]|rattle: .*")
 
 
-@dataclasses.dataclass(frozen=True)
-class Edit:
-    """An edit of a crate, or its twin: its file, the texts that it replaces in which file, and the goals that refuse it by their functions."""
-
-    path: str
-    pairs: tuple
-    refusals: dict
-
-    @property
-    def name(self):
-        return name_of(self.path)
-
-    def made_in(self, texts, folder):
-        """The files that it changes, as they are then, or None where a text that it replaces isn't there once."""
-        made = {}
-        for path, old, new in self.pairs:
-            if path not in texts and path not in made:
-                with open(os.path.join(folder, path), encoding="utf-8") as file:
-                    made[path] = file.read()
-            text = made.get(path, texts.get(path))
-            if text.count(old) != 1:
-                return None
-            made[path] = text.replace(old, new)
-        return made
-
-    def is_refused(self, opened):
-        """Whether it names goals, and all of them are among those that are open."""
-        named = self.refusals.items()
-        return bool(named) and all(opened[function] and goals <= opened[function] for function, goals in named)
+def made_in(edit, texts, folder):
+    """The files that an edit changes, as they are then, or None where a text that it replaces isn't there once."""
+    made = {}
+    for path, old, new in edit.pairs:
+        text = made.get(path) or texts.get(path) or read(folder, path)
+        if text.count(old) != 1:
+            return None
+        made[path] = text.replace(old, new)
+    return made
 
 
-def read_edits(crate):
-    for path in edits_of(crate)[0]:
-        yield Edit(path, tuple(pairs(path)), {function: set(goals) for function, goals in refusals(path)})
+def is_refused(edit, opened, is_written):
+    """Whether an edit names goals, and all of them are among those that are open, or any is where they are written."""
+    return bool(edit.refusals) and all(opened[it] and (is_written or goals <= opened[it]) for it, goals in edit.refusals.items())
 
 
-def read_twins(crate):
+def tried_here(crate):
+    """The edits of a crate that the gate doesn't try."""
+    return [edit for edit in edits_of(crate) if not edit.is_of_gate]
+
+
+def twins_of(crate):
     """The twins of a crate's edits, those that the gate tries among them."""
-    for path in every_edit(crate):
-        if any(twin(path)):
-            yield Edit(path, tuple(twin(path)), dict(refusals(path)))
+    return [edit.twin for edit in edits_of(crate) if edit.twin.pairs]
 
 
 def write_goals(edit, opened):
     """Has an edit say at which goals it is refused."""
-    with open(edit.path, encoding="utf-8") as file:
-        lines = [line for line in file if not line.startswith("refused: ")]
-    with open(edit.path, "w", encoding="utf-8") as file:
-        file.writelines([*lines, *(f"refused: {it} {' '.join(sorted(opened[it]))}\n" for it in edit.refusals)])
+    lines = [line for line in read(edit.path).splitlines() if not line.startswith("refused: ")]
+    write("\n".join([*lines, *(f"refused: {it} {' '.join(sorted(opened[it]))}" for it in edit.refusals), ""]), edit.path)
 
 
 def open_goals(said):
@@ -120,14 +101,13 @@ def apply(edits, folder):
             made.append(edit)
             continue
         is_differ = len(made) < MOST and not functions & set(edit.refusals)
-        changed = edit.made_in(texts, folder) if is_differ else None
+        changed = made_in(edit, texts, folder) if is_differ else None
         if changed is not None:
             texts.update(changed)
             functions.update(edit.refusals)
             made.append(edit)
     for path, text in texts.items():
-        with open(os.path.join(folder, path), "w", encoding="utf-8") as file:
-            file.write(text)
+        write(text, folder, path)
     return made
 
 
@@ -155,15 +135,13 @@ def at_goals(functions, opened):
 
 def try_edits(crate, kept, is_written):
     """Tries each edit of a crate, and answers what is said of it, by its name, and what else was wrong."""
-    left, said, wrong = list(read_edits(crate)), {}, []
-    if is_written:
-        left = [dataclasses.replace(edit, refusals=dict.fromkeys(edit.refusals, set())) for edit in left]
+    left, said, wrong = tried_here(crate), {}, []
     while left:
         made, opened, faults = check(crate, left, kept)
         named = {function for edit in made for function in edit.refusals}
         strays = sorted(set(opened) - named)
         wrong += [*faults, *(f"{it} is open by itself, at {', '.join(sorted(opened[it]))}, and no edit names it" for it in strays)]
-        seen = [] if faults else [edit for edit in made if edit.is_refused(opened)]
+        seen = [] if faults else [edit for edit in made if is_refused(edit, opened, is_written)]
         for edit in seen:
             said[edit.name] = "refused: " + at_goals(edit.refusals, opened)
             if is_written:
@@ -177,7 +155,7 @@ def try_edits(crate, kept, is_written):
 
 def try_twins(crate, kept):
     """Tries the twin of each edit of a crate that has one, and answers the names of those that are accepted, and what was wrong."""
-    left, accepted, wrong = list(read_twins(crate)), [], []
+    left, accepted, wrong = twins_of(crate), [], []
     while left:
         made, opened, faults = check(crate, left, kept)
         refused = [it for it in made if any(opened[function] for function in it.refusals)]
@@ -225,7 +203,7 @@ def tried(crate, log, is_written):
     began, crates = time.monotonic(), every_crate()
     if log and not wait_for(below(crates[crate][1], crates), log):
         print(f"{crate}: its libraries aren't proved", flush=True)
-        return 0, len(list(read_edits(crate)))
+        return 0, len(tried_here(crate))
     if log:
         wait_for_room(log)
     waited = time.monotonic() - began
@@ -262,7 +240,7 @@ def main():
     asked = given.crates or sorted(os.listdir(CRATES))
     if given.count:
         return 1 if say_counts(asked) else 0
-    tries = [it for it in asked if [*read_edits(it), *read_twins(it)]]
+    tries = [it for it in asked if [*tried_here(it), *twins_of(it)]]
     names = sorted(tries, key=lambda it: len(below([it], crates)))
     if not given.gate:
         for library in dict.fromkeys(it for name in names for it in not_new(name, crates)):

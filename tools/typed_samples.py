@@ -15,7 +15,8 @@ sys.dont_write_bytecode = True
 from derive.command import derive
 from derive.reading import renaming
 from derive.reading.modules import Module
-from derive.table.kinds import parted, split
+from derive.table.kinds import parted
+from shared.brackets import split
 from shared.files import write
 from testing import read_samples
 from testing.model import heads
@@ -23,19 +24,6 @@ from testing.model import heads
 # About how many lines the statements of a function take.
 LINES = 22
 
-# Each setting of the sample, and then the form that it is of, where that has another name.
-SETTINGS = {
-    "default": "Default",
-    "named": "Named",
-    "named,tuple": "NamedTuple",
-    "tuple,named": "TupleNamed",
-    "human": "Human",
-    "ForceIterables": "ForceIterables",
-    "ForceAll": "ForceAll",
-    "named,ForceIterables": "NamedForceIterables",
-    "named,ForceAll": "NamedForceAll",
-}
-FORMS = {"Default": "Plain", "ForceIterables": "Plain", "ForceAll": "Plain", "NamedForceIterables": "Named", "NamedForceAll": "Named"}
 NUMBERS = "u8 u16 u32 u64 u128 usize i8 i16 i32 i64 i128 isize".split()
 # Where the names of types come from. Those of the program's own types are found in src/types.rt.
 HOMES = {
@@ -45,8 +33,9 @@ HOMES = {
     "rmp_serde::wire": "ByteBuf Bytes Ext F32Bits F64Bits",
     "std::collections": "BTreeMap BTreeSet VecDeque",
     "test_derived": "Dog Four Newtype Opt Two Unit V12",
-    "test_nodes": "Rose",
-    "test_recursive": "Nested Tree",
+    "test_json": "Dir Json",
+    "test_nodes": "Doc Frame Id List Rose Width",
+    "test_recursive": "Nested Order Span Task Term Tree",
     "test_types": "TupleS TupleS0 UnkMap UnkSeq",
 }
 HOME = {name: home for home, names in HOMES.items() for name in names.split()}
@@ -178,8 +167,8 @@ class Body:
             return f"{int(value, 0)}{kind}"
         if kind in ("bool", "char", "&str", "()"):
             return value
-        if kind in ("f32", "f64"):
-            return f"{kind.upper()}Bits({inside(value, kind + '::from_bits(', ')')})"
+        if kind in ("f32", "f64", "F32Bits", "F64Bits"):
+            return f"{kind[:3].upper()}Bits({inside(value, kind[:3].lower() + '::from_bits(', ')')})"
         if kind == "String":
             return f"String::from_str(alloc, {text_of(value)})?"
         if kind == "Ext":
@@ -261,15 +250,21 @@ def quoted(text):
     return '"' + text.replace("\\", "\\\\").replace('"', '\\"') + '"'
 
 
+def setting_of(words):
+    """The setting of these words of the sample, and the form that it is of, which doesn't say what is forced."""
+    name = "".join(word[0].upper() + word[1:] for word in words.split(","))
+    return name, re.sub(r"Default|Force\w+", "", name) or "Plain"
+
+
 def statements(kind, value, rows, shapes):
     body = Body(shapes)
     made = body.value(kind, value)
     name = made if re.fullmatch(r"value_\d+", made) else body.let(made, kind=kind if kind.startswith("Option") else None)
-    settings = [SETTINGS[setting] for setting, _ in rows]
-    for form in dict.fromkeys(FORMS.get(setting, setting) for setting in settings):
-        of = ", ".join(f"Setting::{setting}" for setting in settings if FORMS.get(setting, setting) == form)
+    settings = [setting_of(words) for words, _ in rows]
+    for form in dict.fromkeys(form for _, form in settings):
+        of = ", ".join(f"Setting::{setting}" for setting, its in settings if its == form)
         body.lines.append(f"rows.add::<{form}, _>({quoted(kind)}, {quoted(value)}, &[{of}], &{name})?;")
-    if "Default" in settings:
+    if ("Default", "Plain") in settings:
         body.lines.append(f"rows.fill(&{name})?;")
     return body
 

@@ -2,6 +2,9 @@
 from __future__ import annotations
 
 from shared.terms import Answers, bounded, bracketed, in_a_row
+from shared.texts import Texts
+
+TEXTS = Texts(__file__)
 
 FIELDS = ("first second third fourth fifth sixth seventh eighth"
           " ninth tenth eleventh twelfth thirteenth fourteenth fifteenth sixteenth"
@@ -65,42 +68,13 @@ def implementation(name: str, n: int, elements: str, named: str, path: str = "")
     names = kinds(n)
     fields = list(zip(names, FIELDS))
     pieces = in_a_row(f"\n        value_of s ({kind}.data_of v.{field}.now s.human) ({kind}.marks v.{field}.now s)" for kind, field in fields)
-    return f"""
-impl<'r, {bounded(names, "Serialize")}> Elements for {name}<'r, {", ".join(names)}> {{
-    ghost count = {{ {n} }};
-
-    ghost parts_of = {{ λ v human. {in_a_row(f"{kind}.data_of v.{field}.now human" for kind, field in fields)} }};
-
-    ghost are_values = {{ λ v. {" × ".join(f"{kind}.is_value v.{field}.now" for kind, field in fields)} }};
-
-    ghost refusals = {{ λ v. {in_a_row(f"{kind}.refuses v.{field}.now" for kind, field in fields)} }};
-
-    ghost takes_memory = {{ λ s. one_of {bracketed([f"{kind}.takes_memory s" for kind in names])} }};
-
-    ghost pieces = {{ λ v s.{pieces} }};
-
-    ghost counted = {{ λ v human. refl }};
-
-    #[inline(always)]
-    fn len(&self) -> usize {{
-        {n}
-    }}
-
-    #[inline(always)]
-    fn write<W: Sink, C: SerializerConfig>(&self, se: &mut Serializer<W, C>) -> Result<(), {path}Error> {{
-{elements}
-    }}
-
-    #[inline(always)]
-    fn write_fields<W: Sink, C: SerializerConfig>(
-        &self,
-        names: &[&'static str],
-        se: &mut Serializer<W, C>,
-    ) -> Result<(), {path}Error> {{
-{named}
-    }}
-}}
-"""
+    return TEXTS.fill(
+        "implementation", bounds=bounded(names, 'Serialize'), name=name, kinds=', '.join(names), n=n,
+        in_a_row=in_a_row((f'{kind}.data_of v.{field}.now human' for kind, field in fields)),
+        rest_2=' × '.join((f'{kind}.is_value v.{field}.now' for kind, field in fields)),
+        in_a_row_2=in_a_row((f'{kind}.refuses v.{field}.now' for kind, field in fields)),
+        bracketed=bracketed([f'{kind}.takes_memory s' for kind in names]), pieces=pieces, path=path, elements=elements, named=named,
+    )
 
 
 def returned(residual: str, term: str) -> str:

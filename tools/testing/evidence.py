@@ -9,26 +9,16 @@ body of the right meaning would have been accepted. An edit rests on
 import collections
 import os
 import re
-import sys
 
-sys.dont_write_bytecode = True
-from edits import CRATES, edits_of, read, refusals, says_where, tests, twin
-from promises import ROW, TOP
+from promises import ROW
+from shared.crates import CRATES
+from shared.files import read
+from testing.edit import Edit, edits_of
 
 KINDS = ("on the search", "on a twin", "on a test", "on nothing yet")
 SEARCH, TWIN, TEST, NOTHING = KINDS
 PROOF_FILES = ("Answers", "Invariants", "Proof")
 ANSWER = re.compile(r"^(?:pub )?(\S+) : goal\.\1$", re.M)
-
-
-def name_of(edit):
-    return os.path.basename(edit)[: -len(".edit")]
-
-
-def every_edit(crate):
-    """The edits of a crate that tools/refused.py tries, and those that the gate does."""
-    of_tests, of_gate = edits_of(crate)
-    return of_tests + of_gate
 
 
 def answered(crate, function):
@@ -38,18 +28,18 @@ def answered(crate, function):
     return {goal for file in files if os.path.isfile(file) for goal in ANSWER.findall(read(file))}
 
 
-def is_by_search(crate, edit):
+def is_by_search(edit: Edit) -> bool:
     """Whether the search alone decides a goal that refuses an edit."""
-    return any(set(goals) - answered(crate, function) for function, goals in refusals(edit))
+    return any(goals - answered(edit.crate, function) for function, goals in edit.refusals.items())
 
 
-def rests(crate, edit):
+def rests(edit: Edit) -> str:
     """What an edit rests on."""
-    if is_by_search(crate, edit):
+    if is_by_search(edit):
         return SEARCH
-    if any(twin(edit)):
+    if edit.twin.pairs:
         return TWIN
-    return TEST if tests(edit) else NOTHING
+    return TEST if edit.tests else NOTHING
 
 
 def in_words(counts):
@@ -59,16 +49,15 @@ def in_words(counts):
 def counted(crates):
     """Says what the edits of each crate rest on, and answers the counts of all, and what is wrong: an edit that doesn't say where it is refused,
     and one that docs/PROVED.md names and that rests on nothing."""
-    named = {edit for *_, edit in ROW.findall(read(os.path.join(TOP, "docs", "PROVED.md")))}
+    named = {edit for *_, edit in ROW.findall(read("docs", "PROVED.md"))}
     total, wrong = collections.Counter(), []
     for crate in crates:
-        edits = every_edit(crate)
-        kinds = {edit: rests(crate, edit) for edit in edits}
-        wrong += [f"{crate}: {name_of(edit)} doesn't say where it is refused" for edit in edits_of(crate)[0] if not says_where(edit)]
-        bare = [name_of(edit) for edit, kind in kinds.items() if kind == NOTHING]
+        kinds = {edit: rests(edit) for edit in edits_of(crate)}
+        wrong += [f"{crate}: {edit.name} doesn't say where it is refused" for edit in kinds if not (edit.is_of_gate or edit.says_where())]
+        bare = [edit.name for edit, kind in kinds.items() if kind == NOTHING]
         wrong += [f"{crate}: {name} rests on nothing yet, and docs/PROVED.md names it" for name in bare if name in named]
         counts = collections.Counter(kinds.values())
-        if edits:
+        if kinds:
             print(f"{crate}: {in_words(counts)}")
         total += counts
     return total, wrong

@@ -6,30 +6,26 @@ import concurrent.futures
 import os
 import re
 import subprocess
-import sys
 import tempfile
 
-sys.dont_write_bytecode = True
-from edits import CALLS, CRATES, misapplied, pairs, read, tests
-from testing.evidence import every_edit, name_of
 from lay_out import lay_out
+from shared.crates import CRATES
+from shared.files import TOP, read, write
+from testing.edit import Edit, edits_of
+
+CALLS = os.path.join(TOP, "tests", "programs", "calls")
 
 MODULE = re.compile(r"^(?:#\[cfg\(test\)\]\n)?(?:pub )?mod (\w+);\n", re.M)
 FAILED = re.compile(r"^test (?:\w+::)*(\w+) \.\.\. FAILED", re.M)
 PASSED = re.compile(r"^test \S+ \.\.\. ok$", re.M)
 
 
-def write(path, text):
-    with open(path, "w", encoding="utf-8") as file:
-        file.write(text)
-
-
-def make(edit, folder):
+def make(edit: Edit, folder: str) -> None:
     """Makes an edit in a crate's sources. What it changes of a proof isn't part of a run."""
-    for path, old, new in pairs(edit):
+    for path, old, new in edit.pairs:
         if path.startswith("src/"):
             whole = os.path.join(folder, path)
-            write(whole, read(whole).replace(old, new))
+            write(read(whole).replace(old, new), whole)
 
 
 def texts_below(folder):
@@ -62,25 +58,25 @@ def cut_down(folder, names):
         left |= {it for it in uses(module, texts[module][1]) if it in texts and it not in kept}
     for module, (path, text) in texts.items():
         if module in kept:
-            write(path, MODULE.sub(lambda found: found[0] if module + (found[1],) in kept else "", text))
+            write(MODULE.sub(lambda found: found[0] if module + (found[1],) in kept else "", text), path)
         else:
             os.remove(path)
     spoken = " ".join(texts[module][1] for module in kept)
     lines = read(os.path.join(folder, "crates.txt")).split("\n")
     last = max(i for i, line in enumerate(lines) if line.startswith("calls:"))
     wanted = [it for it in lines[last].partition(":")[2].split() if re.search(rf"\b{it}\b", spoken)]
-    write(os.path.join(folder, "crates.txt"), "\n".join([*lines[:last], f"calls: {' '.join(wanted)}", ""]))
+    write("\n".join([*lines[:last], f"calls: {' '.join(wanted)}", ""]), folder, "crates.txt")
 
 
-def failing(crate, edit):
+def failing(edit: Edit) -> tuple[list[str], list[str]]:
     """The tests that fail with an edit's body, and what is wrong with the run."""
-    if wrong := [*misapplied(crate, pairs(edit))]:
+    if wrong := [*edit.misapplied()]:
         return [], wrong
     with tempfile.TemporaryDirectory() as folder:
         lay_out(folder, CALLS)
-        if named := tests(edit):
-            cut_down(folder, named)
-        make(edit, os.path.join(folder, "crates", crate))
+        if edit.tests:
+            cut_down(folder, edit.tests)
+        make(edit, os.path.join(folder, "crates", edit.crate))
         command = ["rt", "try", "--test", "--seconds", "240"]
         place = os.path.join(folder, "crates", os.path.basename(CALLS))
         ran = subprocess.run(command, cwd=place, stdout=subprocess.PIPE, stderr=subprocess.STDOUT, stdin=subprocess.DEVNULL, text=True, errors="replace")
@@ -90,13 +86,12 @@ def failing(crate, edit):
 
 def say_failing(names, jobs):
     """Runs the tests with the body of each of these edits, and says which fail. The status is 1 where one that an edit names doesn't."""
-    edits = {edit: crate for crate in sorted(os.listdir(CRATES)) for edit in every_edit(crate)}
-    wanted = {edit: crate for edit, crate in edits.items() if (name_of(edit) in names if names else tests(edit))}
+    edits = [edit for crate in sorted(os.listdir(CRATES)) for edit in edits_of(crate)]
+    wanted = [edit for edit in edits if (edit.name in names if names else edit.tests)]
     is_wrong = not wanted
     with concurrent.futures.ThreadPoolExecutor(jobs) as pool:
-        for edit, (fail, wrong) in zip(wanted, pool.map(failing, wanted.values(), wanted)):
-            passing = sorted(set(tests(edit)) - set(fail))
-            wrong += [f"{it} DOESN'T FAIL with it" for it in passing]
-            print(f"{wanted[edit]}/{name_of(edit)}: {'; '.join([*wrong, 'these fail: ' + ' '.join(fail)])}", flush=True)
+        for edit, (fail, wrong) in zip(wanted, pool.map(failing, wanted)):
+            wrong += [f"{it} DOESN'T FAIL with it" for it in sorted(set(edit.tests) - set(fail))]
+            print(f"{edit.crate}/{edit.name}: {'; '.join([*wrong, 'these fail: ' + ' '.join(fail)])}", flush=True)
             is_wrong |= bool(wrong)
     return 1 if is_wrong else 0

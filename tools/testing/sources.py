@@ -8,13 +8,13 @@ import os
 import re
 from dataclasses import dataclass, field
 
+from shared.brackets import close_of, depth_at, split
 from shared.crates import below, listed
 from shared.files import TOP, read
 
 STEP = " " * 4
 BEGINS = re.compile(r"(pub(?:\([^)]*\))? )?(?:const (?=fn)|unsafe )?(fn|struct|enum|trait|const|type|mod|use|impl)\b ?(\w*)")
 CLAUSE = re.compile(r"(requires|ensures)\*? ?(\w*) ?\{")
-GHOST = re.compile(r"ghost (?!use)(\w+)")
 # The crate that users see.
 ROOT = "rmp_serde"
 # The modules of `rmp_serde` by which an item is named, the first that gives it on.
@@ -34,7 +34,6 @@ class Item:
     derives: list[str] = field(default_factory=list)
     clauses: list[tuple[str, str]] = field(default_factory=list)
     members: list[Item] = field(default_factory=list)
-    ghosts: list[str] = field(default_factory=list)
 
 
 @dataclass
@@ -42,7 +41,6 @@ class Module:
     """A module: its items, the names that it gives on by `pub use`, each with its path, and the modules in it."""
 
     crate: str
-    doc: list[str] = field(default_factory=list)
     items: dict[str, Item] = field(default_factory=dict)
     impls: list[Item] = field(default_factory=list)
     uses: dict[str, list[str]] = field(default_factory=dict)
@@ -120,7 +118,6 @@ def items_of(lines: list[str], margin: str = "") -> list[Item]:
                 item.clauses = clauses_of(lines[at : head + 1])
             elif kind in ("trait", "impl"):
                 item.members = items_of(inner, STEP)
-                item.ghosts = [it[1] for it in map(GHOST.match, (text.removeprefix(STEP) for text in inner)) if it]
             elif kind in ("enum", "struct"):
                 item.members = variants_of(inner)
             found.append(item)
@@ -136,38 +133,12 @@ def items_of(lines: list[str], margin: str = "") -> list[Item]:
     return found
 
 
-def split(text: str) -> list[str]:
-    """The parts of a list, at the commas outside of brackets."""
-    parts, depth, begin = [], 0, 0
-    for at, sign in enumerate(text):
-        depth += step_at(text, at)
-        if sign == "," and not depth:
-            parts.append(text[begin:at])
-            begin = at + 1
-    return [it.strip() for it in [*parts, text[begin:]] if it.strip()]
-
-
-def step_at(text: str, at: int) -> int:
-    """1 where a bracket opens at this place, -1 where one closes, else 0. The arrow of a function isn't a bracket."""
-    return (text[at] in "<([{") - (text[at] in ")]}" or (text[at] == ">" and text[at - 1] != "-"))
-
-
-def close_of(text: str, at: int = 0) -> int:
-    """The place after the bracket that closes the one at this place."""
-    depth = 0
-    for place in range(at, len(text)):
-        depth += step_at(text, place)
-        if not depth:
-            return place + 1
-    return len(text)
-
-
 def uses_of(text: str) -> dict[str, list[str]]:
     """What a file gives on by `pub use`: of each name its path."""
     found = {}
     for use in re.findall(r"^pub use ([^;]+);", text, re.M):
         path, _, names = re.sub(r"\s+", " ", use).partition("::{")
-        for name in split(names.rstrip(" }")) or [""]:
+        for name in split(names.rstrip(" }")):
             whole, _, renamed = (f"{path}::{name}" if name else path).partition(" as ")
             found[renamed or whole.split("::")[-1]] = whole.split("::")
     return found
@@ -176,7 +147,7 @@ def uses_of(text: str) -> dict[str, list[str]]:
 def module_at(crate: str, path: list[str], parent: Module | None = None) -> Module:
     """The module of this path in a crate, with those in it."""
     text = read("crates", crate, "src", *path[:-1], f"{path[-1]}.rt" if path else "lib.rt")
-    module = Module(crate, re.findall(r"^//! ?(.*)", text, re.M), uses=uses_of(text), parent=parent)
+    module = Module(crate, uses=uses_of(text), parent=parent)
     for item in items_of(text.split("\n")):
         if item.kind == "mod":
             module.modules[item.name] = module_at(crate, [*path, item.name], module)
@@ -196,11 +167,11 @@ def impl_parts(declared: str) -> tuple[str, str]:
     """The trait that an `impl` is of, or nothing, and the type."""
     text = declared.removeprefix("impl").strip()
     if text.startswith("<"):
-        text = text[close_of(text) :].strip()
+        text = text[close_of(text, 0) :].strip()
     text = re.split(r"\bwhere\b", text)[0].strip()
     depth = 0
     for at in range(len(text)):
-        depth += step_at(text, at)
+        depth += depth_at(text, at)
         if not depth and text.startswith(" for ", at):
             return text[:at], text[at + 5 :]
     return "", text
@@ -233,7 +204,6 @@ class Library:
         self.crates = {name: module_at(name, []) for name in below([ROOT], listed(os.path.join(TOP, "crates.txt")))}
         self.modules = [it for crate in self.crates.values() for it in all_modules(crate)]
         self.entries: dict[int, Entry] = {}
-        self.pages: dict[str, Module] = {}
         self.walk(self.crates[ROOT], "")
 
     def resolve(self, module: Module, path: list[str]) -> Module | tuple[Module, Item] | None:
@@ -261,7 +231,6 @@ class Library:
 
     def walk(self, module: Module, prefix: str) -> None:
         """Puts down what is public in a module, and in those that it gives on."""
-        self.pages[prefix.removesuffix("::")] = module
         found = {name: self.resolve(module, path) for name, path in module.uses.items()}
         found |= {name: module.modules[name] for name in module.public}
         found |= {name: (module, item) for name, item in module.items.items() if item.public}
@@ -292,13 +261,3 @@ class Library:
         name = re.sub(r"<.*", "", impl_parts(impl.declared)[1])
         near = sorted(self.modules, key=lambda it: it.crate != module.crate)
         return next((it.items[name] for it in near if name in it.items), None)
-
-    def is_hidden(self, name: str) -> bool:
-        """Whether a name is that of an item of these crates which isn't public."""
-        found = [it.items[name] for it in self.modules if name in it.items]
-        return bool(found) and not any(it.public for it in found)
-
-    def implementors(self, name: str) -> list[str]:
-        """The types that implement a trait, as its `impl` blocks have them."""
-        parts = (impl_parts(impl.declared) for module in self.modules for impl in module.impls)
-        return list(dict.fromkeys(of for trait, of in parts if re.match(rf"{name}\b", trait)))

@@ -8,6 +8,9 @@ import dataclasses
 
 from shared.halves import FIELDS
 from shared.terms import Answers, bounded
+from shared.texts import Texts
+
+TEXTS = Texts(__file__)
 
 # The types of the fields: `C` is that of the settings, `R` that of the source, `F` that of the other fields and `S` that of their slots.
 KINDS = "A B D E G H I J K L M N O P Q T".split()
@@ -84,19 +87,7 @@ SIXTEEN = Group(16, "Sixteen", "The sixteen are read and proved as two structs o
 def types(group: Group) -> str:
     """The struct and its slots."""
     fields = "\n".join(f"    pub {field}: {kind}," for field, kind in zip([*group.fields(), "rest"], [*group.kinds(), "F"]))
-    return f"""
-/// The values of {group.module} fields, and those of the fields after them.
-#[derive(Drop)]
-pub struct {group.of()} {{
-{fields}
-}}
-
-/// What was read so far of {group.module} fields, and of those after them.
-#[derive(Drop)]
-pub struct {group.slots('S')} {{
-    read: {group.inner_slots()},
-}}
-"""
+    return TEXTS.fill("types", module=group.module, of=group.of(), fields=fields, slots=group.slots('S'), inner_slots=group.inner_slots())
 
 
 def ghosts(group: Group) -> str:
@@ -129,61 +120,23 @@ def code(group: Group) -> str:
     on = f"<{group.inner()} as Fields<'de, R>>"
     slots = f"slots: &mut {group.slots()}, refusal: &mut Option<Error>"
     settings = "C: SerializerConfig"
-    return f"""
-    fn empty() -> {group.slots()} {{
-        {group.word}Slots {{ read: {on}::empty() }}
-    }}
-
-    #[inline(always)]
-    fn fill<'x, {settings}>({slots}, place: usize, map: &mut MapAccess<'x, R, C>) -> bool {{
-        {on}::fill(&mut slots.read, refusal, place, map)
-    }}
-
-    #[inline(always)]
-    fn finish(slots: {group.slots()}, missing: &mut usize) -> Option<{group.of()}> {{
-        let {group.word}Slots {{ read }} = slots;
-        match {on}::finish(read, missing) {{
-            {made(group, "Some", "None => None")}
-        }}
-    }}
-
-    #[inline(always)]
-    fn row<{settings}>({slots}, de: &mut Deserializer<R, C>) -> bool {{
-        {on}::row(&mut slots.read, refusal, de)
-    }}
-
-    #[inline(always)]
-    fn listed<'x, {settings}>(seq: &mut SeqAccess<'x, R, C>) -> Result<{group.of()}, Error> {{
-        match {on}::listed(seq) {{
-            {made(group, "Ok", "Err(why) => Err(why)")}
-        }}
-    }}
-"""
+    return TEXTS.fill(
+        "code", slots=group.slots(), word=group.word, on=on, settings=settings, slots_2=slots, of=group.of(),
+        made=made(group, 'Some', 'None => None'), made_2=made(group, 'Ok', 'Err(why) => Err(why)'),
+    )
 
 
 def head(group: Group) -> str:
     """What its module begins with."""
     eight = "" if group.is_eight() else "use super::eight::{EightSlots, EightThen};\n"
-    return f"""//! {group.word} fields and the others, as a struct. What is known of a struct is said by its name, while of a tuple it is written out. So a struct
-//! of more than sixteen fields is read as these. Written by tools/tuples.py.
-
-use super::Fields;
-{eight}use crate::access::map::MapAccess;
-use crate::access::seq::SeqAccess;
-use crate::de::Deserialize;
-use crate::deserializer::Deserializer;
-use crate::error::Error;
-use rmp_wire::ReadSlice;
-use rmp_wire::config::SerializerConfig;
-"""
+    return TEXTS.fill("head", word=group.word, eight=eight)
 
 
 def implementation(group: Group) -> str:
-    return f"""{types(group)}
-// {group.about}
-impl<'de, R: ReadSlice<'de>, {bounded(group.kinds(), "Deserialize<'de, R>")}, F: Fields<'de, R>> Fields<'de, R> for {group.of()} {{
-{ghosts(group)}{code(group)}}}
-"""
+    return TEXTS.fill(
+        "implementation", types=types(group), about=group.about, bounded=bounded(group.kinds(), "Deserialize<'de, R>"), of=group.of(),
+        ghosts=ghosts(group), code=code(group),
+    )
 
 
 def answers(group: Group) -> dict[str, Answers]:

@@ -2,20 +2,11 @@
 from __future__ import annotations
 
 from shared.terms import KINDS, all_of, any_of, both_of, bounded, in_a_row, known, lent, linked, list_of, tuple_of
+from shared.texts import Texts
 
-ROUNDS_HEAD = """//! Tuples. Written by tools/tuples.py.
-ghost use Rattle.std.specs.Prelude.{◌∷◌, ◌||◌, [], true};
-ghost use Rattle.rmp_encode.specs.Trees.{tuple_of};
-ghost use Rattle.rmp_round_trip.specs.AlikeOrder.{then_tied};
-ghost use Rattle.rmp_round_trip.specs.OnlyRows.{item_only, last_only, lowers_then, row_both};
-ghost use Rattle.rmp_round_trip.specs.RoundTrip.{Only};
-ghost use Rattle.rmp_round_trip.specs.Rounds.{rows_none, rows_cons, parts_none, parts_cons, tuple_some, tuple_row, tuple_other, first_lent, second_lent};
+TEXTS = Texts(__file__)
 
-use crate::round_trip::{ContentOrd, NeverNil, RoundTrip};
-use rmp_decode::Deserialize;
-use rmp_encode::Serialize;
-use rmp_wire::ReadSlice;
-"""
+ROUNDS_HEAD = TEXTS.fill("rounds_head")
 
 
 def rows(facts: list[tuple[str, str]]) -> str:
@@ -41,46 +32,20 @@ def rounds(count: int) -> str:
         equal = f"(then_tied _ _ {equal} {one})" if equal else one
     of = tuple_of(kinds)
     only = f"(λ m. (w : _) → ⟦<{of} as Deserialize<'de, R>>⟧.reads s.human R.lends m w → {same})"
-    return f"""
-impl<'de, R: ReadSlice<'de>, {bounded(kinds, "RoundTrip<'de, R>")}> RoundTrip<'de, R> for {of} {{
-    ghost borrows = {{ {any_of(borrows)} }};
-
-    ghost has_data = {{ λ human v. tuple_some _ {stated} }};
-
-    ghost round = {{ λ lent s v fits. tuple_row s _ _ {read} }};
-
-    ghost same = {{ λ v w. {same} }};
-
-    ghost alike = {{ λ human v w h i. tuple_of ({alike}) }};
-
-    ghost only = {{ λ s v fits. lowers_then s _ _ {only} (tuple_row s _ _ {alone}) (λ m q w r. {both}) }};
-}}
-
-impl<{bounded(kinds, "Serialize")}> NeverNil for {of} {{
-    ghost never_nil = {{ λ s v. tuple_other s ({in_a_row(f"{kind}.data_of v.{i} s.human" for kind, i, *_ in places)}) }};
-}}
-
-impl<'de, R: ReadSlice<'de>, {bounded(kinds, "ContentOrd<'de, R>")}> ContentOrd<'de, R> for {of} {{
-    ghost equal = {{ λ v w h. {equal} }};
-}}
-"""
+    return TEXTS.fill(
+        "rounds", bounded=bounded(kinds, "RoundTrip<'de, R>"), of=of, any_of=any_of(borrows), stated=stated, read=read, same=same, alike=alike,
+        only=only, alone=alone, both=both, bounded_2=bounded(kinds, 'Serialize'),
+        in_a_row=in_a_row((f'{kind}.data_of v.{i} s.human' for kind, i, *_ in places)), bounded_3=bounded(kinds, "ContentOrd<'de, R>"), equal=equal,
+    )
 
 
-ENDS_HEAD = """//! Tuples. Written by tools/tuples.py.
-ghost use Rattle.std.specs.Prelude.{◌∷◌, []};
-ghost use Rattle.rmp_decode.specs.Refusing.{part_of};
-ghost use Rattle.rmp_ends.specs.RowEnds.{tuple_inside};
-
-use crate::ends_inside::EndsInside;
-use rmp_wire::ReadSlice;
-"""
+ENDS_HEAD = TEXTS.fill("ends_head")
 
 
 def ends(count: int) -> str:
     kinds = KINDS[:count]
     parts = list_of([f"part_of {kind}.reads {kind}.refuses" for kind in kinds])
-    return f"""
-impl<'de, R: ReadSlice<'de>, {bounded(kinds, "EndsInside<'de, R>")}> EndsInside<'de, R> for {tuple_of(kinds)} {{
-    ghost ends_inside = {{ tuple_inside ({parts}) {all_of([f"{kind}.ends_inside" for kind in kinds])} }};
-}}
-"""
+    return TEXTS.fill(
+        "ends", bounded=bounded(kinds, "EndsInside<'de, R>"), tuple_of=tuple_of(kinds), parts=parts,
+        all_of=all_of([f'{kind}.ends_inside' for kind in kinds]),
+    )

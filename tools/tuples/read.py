@@ -9,19 +9,11 @@ from __future__ import annotations
 from derive.flat.terms import nested, place_of
 from derive.table.types import LEAST_FLAT, MOST_FLAT
 from shared.terms import KINDS, Answers, around, bounded, chained, in_a_row, list_of, tuple_of
+from shared.texts import Texts
 
-TUPLES_HEAD = """//! Tuples, from lists of as many elements, or bytes of as many. Written by tools/tuples.py.
-ghost use Rattle.std.specs.Prelude.{◌||◌, None, [], ◌∷◌};
-ghost use Rattle.rmp_decode.specs.Refusing.{part_of, RefusesTuple};
-ghost use Rattle.rmp_decode.specs.Rows.{AndThen, NoMore};
-ghost use Rattle.rmp_decode.specs.Seq.{OfRow};
+TEXTS = Texts(__file__)
 
-use crate::de::Deserialize;
-use crate::deserializer::Deserializer;
-use crate::error::Error;
-use rmp_wire::ReadSlice;
-use rmp_wire::config::SerializerConfig;
-"""
+TUPLES_HEAD = TEXTS.fill("tuples_head")
 USES = {
     "std.proofs.Common": "◌||◌",
     "rmp_decode.proofs.Laws": "lawful_ok lawful_err",
@@ -50,29 +42,11 @@ def tuples(count: int) -> str:
     names = [kind.lower() for kind in kinds]
     of = tuple_of(kinds)
     reads = chained([f"AndThen (λ k. {kind}.reads human lends k v.{i})" for i, kind in enumerate(kinds)], "NoMore")
-    return f"""
-impl<'de, R: ReadSlice<'de>, {bounded(kinds, "Deserialize<'de, R>")}> Deserialize<'de, R> for {of} {{
-    ghost reads = {{ λ human lends m v. OfRow ({reads}) m }};
-
-    ghost absent = {{ None }};
-
-    ghost refuses = {{ RefusesTuple ({in_a_row(f"part_of {kind}.reads {kind}.refuses" for kind in kinds)}) }};
-
-    ghost takes_memory = {{ λ lends. {one_of([f"{kind}.takes_memory lends" for kind in kinds])} }};
-
-    #[inline(always)]
-    fn deserialize<C: SerializerConfig>(de: &mut Deserializer<R, C>) -> Result<{of}, Error> {{
-        match de.tuple_parts({count}) {{
-            Ok({fields_of(names)}) => Ok({tuple_of(names)}),
-            Err(e) => Err(e),
-        }}
-    }}
-
-    fn missing() -> Option<{of}> {{
-        None
-    }}
-}}
-"""
+    return TEXTS.fill(
+        "tuples", bounded=bounded(kinds, "Deserialize<'de, R>"), of=of, reads=reads,
+        in_a_row=in_a_row((f'part_of {kind}.reads {kind}.refuses' for kind in kinds)),
+        one_of=one_of([f'{kind}.takes_memory lends' for kind in kinds]), count=count, fields_of=fields_of(names), tuple_of=tuple_of(names),
+    )
 
 
 def no_memory(kinds: str) -> str:
@@ -101,26 +75,8 @@ def uses_of_fields() -> str:
     return "".join(f"ghost use Rattle.rmp_decode.specs.ReadFields.{{{', '.join(names[at : at + 8])}}};\n" for at in range(0, len(names), 8))
 
 
-FIELDS_HEAD = f"""//! Reads of 2 to 12 fields, whose contracts name each field's part in one list. Written by tools/tuples.py.
-ghost use Rattle.std.specs.Option.{{is_none}};
-ghost use Rattle.std.specs.Prelude.{{◌≡◌, ◌∷◌, [], length}};
-ghost use Rattle.rmp_decode.specs.FieldRefusing.{{RefusesFields}};
-ghost use Rattle.rmp_decode.specs.Fields.{{OfFields}};
-ghost use Rattle.rmp_decode.specs.Law.{{Lawful}};
-ghost use Rattle.rmp_decode.specs.Names.{{bytes_of}};
-ghost use Rattle.rmp_decode.specs.Refusing.{{RefusesAs, part_of}};
-{uses_of_fields()}
-use crate::de::Deserialize;
-use crate::deserializer::Deserializer;
-use crate::error::Error;
-use rmp_wire::ReadSlice;
-use rmp_wire::config::SerializerConfig;
-"""
-FIELDS_SPECS = """-- Which trees of so many fields, each there or missing, are read as which values, by those of the fields' types. Written by tools/tuples.py.
-use Rattle.std.specs.Prelude.{Bool, List, Option}
-use Rattle.rmp_wire.specs.Msg.{Msg}
-use Rattle.rmp_decode.specs.Fields.{Field, Absent, NoField}
-"""
+FIELDS_HEAD = TEXTS.fill("fields_head", uses_of_fields=uses_of_fields())
+FIELDS_SPECS = TEXTS.fill("fields_specs")
 
 
 def value(kinds: list[str]) -> str:
@@ -138,10 +94,7 @@ def reads_fields(count: int) -> str:
     given = " → ".join(f"(Bool → Bool → Msg → {kind} → Type 0) → Option {kind}" for kind in kinds)
     words = " ".join(f"r{at} a{at}" for at in places)
     fields = chained([f"Field (λ j. r{at} human lends j v{place_of(at, count)}) (Absent a{at} v{place_of(at, count)})" for at in places], "NoField")
-    return f"""
-abbrev pub reads_{count} : {{{' '.join(kinds)} : Type 0}} → {given} → Bool → Bool → List (Option Msg) → {value(kinds)} → Type 0
-reads_{count} {words} human lends fs v = {fields} fs
-"""
+    return TEXTS.fill("reads_fields", count=count, rest=' '.join(kinds), given=given, value=value(kinds), words=words, fields=fields)
 
 
 def read_fields(count: int) -> str:
@@ -149,20 +102,6 @@ def read_fields(count: int) -> str:
     given = " ".join(f"{kind}.reads {kind}.absent" for kind in kinds)
     parts = list_of([f"part_of {kind}.reads {kind}.refuses" for kind in kinds])
     needed = list_of([f"is_none {kind}.absent" for kind in kinds])
-    return f"""
-/// Reads {count} fields by their names, as `Deserializer::deserialize_fields` does.
-///
-/// # Errors
-/// Those of `Deserializer::deserialize_fields`.
-#[inline(always)]
-pub fn read_fields_{count}<'de, R: ReadSlice<'de>, C: SerializerConfig, {bounded(kinds, "Deserialize<'de, R>")}>(
-    de: &mut Deserializer<R, C>,
-    names: &[&str],
-) -> Result<{nested(kinds)}, Error>
-    requires count {{ length names.now ≡ {count} }}
-    ensures law {{ Lawful R.Source (λ m v. OfFields (bytes_of names.now) (λ fs. reads_{count} {given} C.human R.lends fs v) m) de.old de.new result }}
-    ensures refused {{ RefusesAs R.Source C.human R.lends (RefusesFields (bytes_of names.now) ({needed}) ({parts})) de.old de.new result }}
-{{
-    de.deserialize_fields::<{nested(kinds)}>(names)
-}}
-"""
+    return TEXTS.fill(
+        "read_fields", count=count, bounded=bounded(kinds, "Deserialize<'de, R>"), nested=nested(kinds), given=given, needed=needed, parts=parts,
+    )

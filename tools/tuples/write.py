@@ -4,6 +4,9 @@ from __future__ import annotations
 from shared import halves
 from shared.halves import FIELDS, NAMES, kinds
 from shared.terms import bounded, bracketed, in_a_row, tuple_of
+from shared.texts import Texts
+
+TEXTS = Texts(__file__)
 
 LETTERS = "abcdefgh"
 
@@ -16,24 +19,7 @@ def rule(count: int) -> str:
 
 
 RULES = "".join(rule(n + 1) for n in range(len(NAMES) - 1))
-ELEMENTS_HEAD = f"""//! One to eight elements of several types. Written by tools/tuples.py.
-ghost use Rattle.std.specs.Prelude.{{◌∷◌, [], refl}};
-ghost use Rattle.rmp_encode.specs.Markers.{{value_of}};
-ghost use Rattle.rmp_encode.specs.Sizes.{{one_of}};
-
-use crate::elements::Elements;
-use crate::elements::rows::{{Row, add_then, write_fields_then, write_then}};
-use crate::error::Error;
-use crate::ser::Serialize;
-use crate::serializer::Serializer;
-use crate::tuple::Tuple;
-use rmp_wire::Sink;
-use rmp_wire::config::SerializerConfig;
-
-// These references as elements.
-macro_rules! row {{
-{RULES}}}
-"""
+ELEMENTS_HEAD = TEXTS.fill("elements_head", RULES=RULES)
 WORDS = ["One element", "Two elements", "Three elements", "Four elements", "Five elements", "Six elements", "Seven elements", "Eight elements"]
 
 
@@ -50,64 +36,21 @@ def elements(count: int) -> str:
     name, names = NAMES[count - 1], kinds(count)
     fields = "\n".join(f"    pub {field}: &'r {kind}," for field, kind in zip(FIELDS, names))
     written, named, added = bodies(count)
-    return f"""
-/// {WORDS[count - 1]}.
-#[derive(Drop)]
-pub struct {name}<'r, {", ".join(names)}> {{
-{fields}
-}}
-{halves.implementation(name, count, written, named)}
-impl<'r, {bounded(names, "Serialize")}> Row for {name}<'r, {", ".join(names)}> {{
-    #[inline(always)]
-    fn add_to<W: Sink, C: SerializerConfig>(&self, tup: &mut Tuple<'_, W, C>) -> Result<(), Error> {{
-        {added}
-    }}
-}}
-"""
+    return TEXTS.fill(
+        "elements", words=WORDS[count - 1], name=name, kinds=', '.join(names), fields=fields,
+        implementation=halves.implementation(name, count, written, named), bounds=bounded(names, 'Serialize'), added=added,
+    )
 
 
-TUPLES_HEAD = """//! Tuples of one to eight elements. Written by tools/tuples.py.
-//!
-//! In the modes `Normal` and `ForceIterables` writing them takes no memory but by their elements and the sink.
-ghost use Rattle.std.specs.Prelude.{◌∷◌, ◌||◌, []};
-ghost use Rattle.rmp_encode.specs.Refusals.{OfParts};
-ghost use Rattle.rmp_encode.specs.Sizes.{one_of};
-ghost use Rattle.rmp_encode.specs.Trees.{forces_all, tuple_of};
-
-use crate::elements::{Both, Eight, Five, Four, One, Seven, Six, Three};
-use crate::error::Error;
-use crate::ser::Serialize;
-use crate::serializer::Serializer;
-use crate::tuple::put_row;
-use rmp_wire::Sink;
-use rmp_wire::config::SerializerConfig;
-"""
+TUPLES_HEAD = TEXTS.fill("tuples_head")
 
 
 def tuples(count: int) -> str:
     names = kinds(count)
-    return f"""
-impl<{bounded(names, "Serialize")}> Serialize for {tuple_of(names)} {{
-    ghost data_of = {{ λ v human. tuple_of ({in_a_row(f"{k}.data_of v.{i} human" for i, k in enumerate(names))}) }};
-
-    ghost is_value = {{ λ v. {" × ".join(f"{k}.is_value v.{i}" for i, k in enumerate(names))} }};
-
-    ghost takes_memory = {{ λ s. forces_all s.bytes || one_of {bracketed([f"{k}.takes_memory s" for k in names])} }};
-
-    ghost refuses = {{ λ v. OfParts ⊥ {bracketed([f"{k}.refuses v.{i}" for i, k in enumerate(names)])} }};
-
-    fn serialize<W: Sink, C: SerializerConfig>(
-        &self,
-        se: &mut Serializer<W, C>,
-    ) -> Result<(), Error> {{
-        let elements = {NAMES[count - 1]} {{ {", ".join(f"{field}: &self.{i}" for i, field in enumerate(FIELDS[:count]))} }};
-        put_row(se, {count}, &elements)
-    }}
-
-    #[tactic(auto, using(crate::proofs::Packing::tuple_no_byte))]
-    #[inline(always)]
-    fn as_u8(&self, _human: bool) -> Option<u8> {{
-        None
-    }}
-}}
-"""
+    return TEXTS.fill(
+        "tuples", bounds=bounded(names, 'Serialize'), tuple_of=tuple_of(names),
+        in_a_row=in_a_row((f'{k}.data_of v.{i} human' for i, k in enumerate(names))),
+        known=' × '.join((f'{k}.is_value v.{i}' for i, k in enumerate(names))), memory=bracketed([f'{k}.takes_memory s' for k in names]),
+        refused=bracketed([f'{k}.refuses v.{i}' for i, k in enumerate(names)]), holder=NAMES[count - 1],
+        rest_2=', '.join((f'{field}: &self.{i}' for i, field in enumerate(FIELDS[:count]))), count=count,
+    )

@@ -2,8 +2,9 @@
 //! serde's derive.
 use crate::recursive::{read, reads, reads_both, refused, writes};
 use std::alloc::Global;
+use std::collections::{BTreeMap, VecDeque};
 use std::test::Fail;
-use test_nodes::{Doc, Frame, List};
+use test_nodes::{Doc, Frame, Id, List, Width};
 
 const FRAME: &[u8] =
     b"\x96\x01\x81\xa2Px\x05\xdc\x00\x10\x07\xcc\xc8\x07\x07\x07\x07\x07\x07\x07\x07\x07\x07\x07\x07\x07\x07\
@@ -15,6 +16,34 @@ const FRAME_NAMED: &[u8] =
     \xa6counts\x82\xa1a\xce\x00\x01\x11p\xa1b\x02\xa5least\x81\xa2Px\x01\xa6frames\x91\
     \x86\xa2id\xcd\x01,\xa5width\x81\xa2Em\xa12\xa4hash\xdc\x00\x10\x00\x00\x00\x00\x00\x00\x00\x00\x00\x00\x00\x00\x00\x00\x00\x00\
     \xa6counts\x80\xa5least\xc0\xa6frames\x90";
+
+#[test]
+fn frames_written(rt: HostRuntime) -> Result<(), Fail> {
+    let inner = Frame {
+        id: Id(300),
+        width: Width::Em(String::from_str(rt.alloc(), "2")?),
+        hash: [0; 16],
+        counts: BTreeMap::new(rt.alloc()),
+        least: None,
+        frames: VecDeque::new(rt.alloc()),
+    };
+    let mut counts = BTreeMap::new(rt.alloc());
+    counts.insert(String::from_str(rt.alloc(), "b")?, 2)?;
+    counts.insert(String::from_str(rt.alloc(), "a")?, 70000)?;
+    let mut frames = VecDeque::new(rt.alloc());
+    frames.push_back(inner)?;
+    let frame = Frame {
+        id: Id(1),
+        width: Width::Px(5),
+        hash: [7, 200, 7, 7, 7, 7, 7, 7, 7, 7, 7, 7, 7, 7, 7, 7],
+        counts,
+        least: Some(Width::Px(1)),
+        frames,
+    };
+    writes(&rt, rt.alloc(), &frame, false, FRAME);
+    writes(&rt, rt.alloc(), &frame, true, FRAME_NAMED);
+    Ok(())
+}
 
 #[test]
 fn frames_read(rt: HostRuntime) {
@@ -49,8 +78,33 @@ const DOC_NAMED: &[u8] =
 const TWICE: &[u8] = b"\x81\xa6Object\x92\x92\xa1b\xa4Null\x92\xa1b\x81\xa5Array\x90";
 
 #[test]
+fn docs_written(rt: HostRuntime) -> Result<(), Fail> {
+    let wide = Doc::Wide(Width::Em(String::from_str(rt.alloc(), "x")?));
+    let first = Doc::Array(vec![in rt.alloc(); Doc::Null, wide]?);
+    let empty = Box::new(rt.alloc(), Doc::Object(Vec::new(rt.alloc())))?;
+    let second = Doc::Framed {
+        id: Id(9),
+        doc: empty,
+    };
+    let mut pairs = Vec::new(rt.alloc());
+    pairs.push((String::from_str(rt.alloc(), "z")?, first))?;
+    pairs.push((String::from_str(rt.alloc(), "a")?, second))?;
+    let doc = Doc::Object(pairs);
+    writes(&rt, rt.alloc(), &doc, false, DOC);
+    writes(&rt, rt.alloc(), &doc, true, DOC_NAMED);
+    Ok(())
+}
+
+#[test]
 fn docs_read(rt: HostRuntime) {
     reads_both::<Doc>(&rt, rt.alloc(), DOC, DOC_NAMED);
+    reads::<Doc>(&rt, rt.alloc(), 8, DOC, false, DOC);
+    refused::<Doc>(
+        &rt,
+        rt.alloc(),
+        read(rt.alloc(), 7, DOC),
+        "depth limit exceeded",
+    );
     reads::<Doc>(&rt, rt.alloc(), 1024, TWICE, false, TWICE);
     for (input, why) in [
         (

@@ -75,7 +75,21 @@ pub(crate) fn refused<T: Drop>(rt: &impl Abort, alloc: Global, read: Result<T, E
     }
 }
 
-// Both forms are read, strictly too, as the value that is written as these bytes, and no beginning of them is.
+// Each proper beginning of these bytes is refused for its end.
+pub(crate) fn cut<'de, T: Deserialize<'de, ReadRefReader<'de>> + Drop>(
+    rt: &impl Abort,
+    alloc: Global,
+    input: &'de [u8],
+) {
+    for len in 0..input.len() {
+        match read::<T>(alloc, 1024, &input[..len]) {
+            Ok(_) => panic!(rt; "a value of {len} bytes of {input:?}"),
+            Err(e) => assert!(rt; e.is_incomplete()),
+        }
+    }
+}
+
+// Both forms are read, strictly too, as the value that is written as these bytes, and each beginning of them is cut.
 pub(crate) fn reads_both<'de, T: Deserialize<'de, ReadRefReader<'de>> + Serialize + Drop>(
     rt: &impl Abort,
     alloc: Global,
@@ -86,9 +100,7 @@ pub(crate) fn reads_both<'de, T: Deserialize<'de, ReadRefReader<'de>> + Serializ
         reads::<T>(rt, alloc, 1024, input, false, listed);
         reads::<T>(rt, alloc, 1024, input, true, named);
         assert!(rt; strictly::<T>(alloc, input).is_ok());
-        for len in 0..input.len() {
-            assert!(rt; read::<T>(alloc, 1024, &input[..len]).is_err());
-        }
+        cut::<T>(rt, alloc, input);
     }
 }
 
@@ -143,9 +155,7 @@ fn objects(rt: HostRuntime) {
     ] {
         refused::<Json>(&rt, rt.alloc(), read(rt.alloc(), 1024, input), why);
     }
-    for length in 0..OBJECT.len() {
-        assert!(rt; read::<Json>(rt.alloc(), 1024, &OBJECT[..length]).is_err());
-    }
+    cut::<Json>(&rt, rt.alloc(), OBJECT);
 }
 
 #[test]
@@ -184,6 +194,7 @@ fn terms(rt: HostRuntime) {
         reads::<Term>(&rt, rt.alloc(), 1024, written, false, written);
         refused::<Term>(&rt, rt.alloc(), read(rt.alloc(), 2, written), TOO_DEEP);
         assert!(rt; strictly::<Term>(rt.alloc(), written).is_ok());
+        cut::<Term>(&rt, rt.alloc(), written);
     }
     for (input, why) in [
         (b"\x81\xa3Not\xa3All".as_slice(), "unknown variant"),

@@ -3,9 +3,10 @@ from __future__ import annotations
 
 from typing import TYPE_CHECKING
 
+from shared.brackets import split
 from shared.terms import known, list_of
 
-from ..table.kinds import parted, split
+from ..table.kinds import parted
 from ..table.plain import LAWS, LISTS
 from ..table.types import Declared, Shape
 from .terms import alias, by_cases, tree_of, values_of

@@ -10,6 +10,9 @@ from ..table.types import Declared, is_flat, is_long
 from .proofs import has_content, has_defaults
 from .terms import GROUP, MOST_IN_TUPLES, Words, apart, bound_name, data_of, elements_of, header, member_of_reading, member_of_refusing
 from .terms import members_of_writing, memory_of, nested, place_of, refused_of, then_bound, then_of
+from shared.texts import Texts
+
+TEXTS = Texts(__file__)
 
 PLACES = halves.FIELDS
 # The lemmas that a struct is no byte.
@@ -161,16 +164,7 @@ def filled(name, default):
 
 
 # What fills in a text.
-TEXT_OR = """// The text that was read, or a copy of this one.
-fn text_or(alloc: std::alloc::Global, read: Option<String>, text: &str) -> Result<String, std::alloc::AllocError>
-    ensures { IfOk result (λ v. MatchOption read (string_bytes v ≡ text.now) (λ x. v ≡ x)) }
-{
-    match read {
-        Some(found) => Ok(found),
-        None => String::from_str(alloc, text),
-    }
-}
-"""
+TEXT_OR = TEXTS.fill("text_or")
 
 
 def taken_differ(shape):

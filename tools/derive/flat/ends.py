@@ -1,9 +1,10 @@
 """Writes `EndsInside` for what derive.py derives: a read meets an end only inside of a message."""
 from __future__ import annotations
 
+from shared.brackets import split
 from shared.terms import all_of, list_of
 
-from ..table.kinds import parted, split
+from ..table.kinds import parted
 from ..table.own import Own
 from ..table.plain import LAWS
 from ..table.types import Declared, Shape, is_flat

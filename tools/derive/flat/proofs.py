@@ -14,6 +14,9 @@ from shared.terms import around, numbered, tuple_of, variants_as
 
 if TYPE_CHECKING:
     from ..reading.modules import Module
+from shared.texts import Texts
+
+TEXTS = Texts(__file__)
 
 def answer(goal: str, term: str, given: str = "g c") -> str:
     return f"\npub {goal} : goal.{goal}\n{goal} {given} = {term}\n"
@@ -58,18 +61,7 @@ def has_defaults(shape: Shape) -> bool:
 
 
 # Of a struct of which a field has a text as its default.
-TEXT_FIELD = """
--- a field of which a text is the default, and others
-text_field : (Q S : List (Option Msg) → Type 0) → ((fs : List (Option Msg)) → Q fs → S fs) → {V : Type 0} (reads : Msg → V → Type 0) (A : V → Type 0)
-    (o : Option V) (v : V) → MatchOption o (A v) (λ x. v ≡ x) → (fs : List (Option Msg))
-    → Field (λ m. IsGiven (reads m) o) (Absent (Some (given None)) (given o)) Q fs → Field (λ m. reads m v) (A v) S fs
-text_field Q S f reads A o v h [] q = absurd q
-text_field Q S f reads A None v h (None ∷ fs) q = (h, f fs q.1)
-text_field Q S f reads A (Some x) v h (None ∷ fs) q =
-    absurd (subst (λ o. MatchOption o ⊥ (λ d. MatchOption d.value (Unit {0}) (λ v. ⊥))) q.0 tt)
-text_field Q S f reads A None v h (Some m ∷ fs) q = absurd q.0
-text_field Q S f reads A (Some x) v h (Some m ∷ fs) q = (subst (reads m) (sym h) q.0, f fs q.1)
-"""
+TEXT_FIELD = TEXTS.fill("text_field")
 
 
 def copied(shape: Shape, field: Field) -> str:
@@ -140,17 +132,7 @@ CALLS = {"unit": "unit_variant", "newtype": "newtype_variant", "tuple": "newtype
 # What the lemmas on a variant's refusal take first: the source, whether the format is for people, and the readers that the variant's
 # call and the read leave, which their laws speak of. The rest they find by themselves.
 REFUSED = "g.R.Source g.C.SerializerConfig.human _ _ _ _ (left_by ({call})) (left_by ({law})) _ (search rules)"
-LEFT_BY = """
--- the reader that a law speaks of
-abbrev left_by : {R C V : Type 0} {g : Ghosts R} {reads : Msg → V → Type 0} {old last : Deserializer R C} {result : Result V Error}
-    → Lawful g reads old last result → Deserializer R C
-left_by {R} {C} {V} {g} {reads} {old} {last} {result} l = last
-
--- the reader that is left where no variant opens
-abbrev unopened_by : {R C : Type 0} {g : Ghosts R} {names : List (List ℕ)} {old new : Deserializer R C} {e : Error}
-    → FailsToOpenVariant g names old new e → Deserializer R C
-unopened_by {R} {C} {g} {names} {old} {new} {e} f = new
-"""
+LEFT_BY = TEXTS.fill("left_by")
 
 
 def variant_content(shape: Shape, arm: str, others: frozenset[str]) -> tuple[str, str]:
@@ -200,12 +182,7 @@ def calls_of(of: Declared) -> Iterator[str]:
 
 
 # Of an enum of which a variant's field has a default.
-CONTENT_AS = """
--- content that is read in one way, in another
-content_as : (P Q : Msg → Type 0) → ((m : Msg) → P m → Q m) → (c : Option Msg) → Content P c → Content Q c
-content_as P Q f None h = h
-content_as P Q f (Some m) h = f m h
-"""
+CONTENT_AS = TEXTS.fill("content_as")
 
 
 def enum_read(of: Declared) -> str:

@@ -3,9 +3,10 @@ from __future__ import annotations
 
 from typing import Optional
 
+from shared.brackets import split
 from shared.terms import all_of, any_of, both_of, chained, known, lent, linked, list_of, listed_in
 
-from ..table.kinds import parted, split
+from ..table.kinds import parted
 from ..table.own import Own
 from ..table.plain import LAWS, LISTS, ORDERS, TIED
 from ..table.types import Declared, Shape

@@ -9,9 +9,10 @@ import dataclasses
 import re
 from typing import TYPE_CHECKING, Iterator, Optional
 
+from shared.brackets import depth_at, split
 from shared.terms import variants_as
 
-from ..table.kinds import Refused, closing, depth_at, identifiers, split
+from ..table.kinds import Refused, closing, identifiers
 from ..table.types import MOST_IN_VARIANT, MOST_NAMED, MOST_UNNAMED, Declared, Field, Shape, is_flat
 from . import renaming
 from .defaults import Known, default_of
@@ -395,12 +396,28 @@ def declared(source: Source, word: str, name: str, at: int, notes: renaming.Note
 def check_recursion(types: dict[str, Declared], text: str) -> None:
     """Refuses a type that leads back to itself through another type."""
     inner = {name: {word for kind in of.kinds() for word in identifiers(kind)} & set(types) for name, of in types.items()}
-    for name in types:
+    for name, of in types.items():
         other = next((word for word in sorted(inner[name] - {name}) if name in reached(word, inner)), None)
         if other:
-            are_enums = types[name].variants and types[other].variants
-            one = "write one enum of the variants of both" if are_enums else "put the fields of one into the other, so that each type holds no other that holds it"
-            raise Refused(f"{name}: it leads back to itself through {other}: {one}", declared_at(text, name))
+            why = f"it leads back to itself through {other}: {instead_of_two(of, types[other])}, or implement both by hand, in a file without `mod derived;`"
+            raise Refused(f"{name}: {why}", declared_at(text, name))
+
+
+def instead_of_two(of: Declared, other: Declared) -> str:
+    """What is written in place of two types that lead to each other."""
+    structs, enums = [it for it in (of, other) if it.shape], [it for it in (of, other) if it.variants]
+    if not structs:
+        return "write one enum of the variants of both"
+    if not enums or structs[0].shape.kind != "named":
+        return "put the fields of one into the other, so that each type holds no other that holds it"
+    [struct], [enum] = structs, enums
+    holding = [shape for shape in enum.variants if any(struct.name in identifiers(field.kind) for field in shape.fields)]
+    fields = ", ".join(f"{field.name}: {field.kind}" for field in struct.shape.fields)
+    alone = [shape for shape in holding if shape.kind == "newtype" and shape.fields[0].kind in (struct.name, f"Box<{struct.name}>")]
+    if not alone or len(alone) < len(holding):
+        return f"write the fields of {struct.name} in the variants of {enum.name} that hold it" + "".join(f", as {it.name} {{ {fields} }}" for it in alone[:1])
+    others = f", and {', '.join(shape.name for shape in alone[1:])} so, too" if alone[1:] else ""
+    return f"in {enum.name} write {alone[0].name} {{ {fields} }} in place of {alone[0].name}({alone[0].fields[0].kind}), which has the same bytes{others}"
 
 
 def reached(word: str, inner: dict[str, set[str]]) -> set[str]:

@@ -8,9 +8,10 @@ import dataclasses
 import re
 import struct
 
+from shared.brackets import split
 from shared.terms import list_of
 
-from ..table.kinds import Refused, split
+from ..table.kinds import Refused
 from ..table.types import Default
 from .uses import TYPED, number_of
 

@@ -6,9 +6,11 @@ import re
 from collections.abc import Iterator
 from typing import TYPE_CHECKING, Optional
 
+from shared.brackets import depth_at, split
 from shared.terms import MOST
 
-from ..table.kinds import PLAIN, PRELUDE, Refused, closing, depth_at, split
+from .instead import instead
+from ..table.kinds import PLAIN, PRELUDE, Refused, closing
 
 if TYPE_CHECKING:
     from .declarations import Source
@@ -19,47 +21,11 @@ BROUGHT = {
     **dict.fromkeys(("ByteBuf", "Bytes", "Ext", "F32Bits", "F64Bits"), "rmp_wire"),
     **dict.fromkeys(("Float64", "Timestamp", "Raw", "RawRef", "Value"), "rmp_serde"),
 }
-# Types of Rust that can't be a field's, and what to write in their place.
-INSTEAD = {"f32": "F32Bits", "f64": "Float64, or F64Bits, which holds its bits", "str": "String"}
-# The same of types of std and of crates that many use, where the crate has none of the name.
-INSTEAD_OF_STD = {
-    "HashMap": "BTreeMap, whose keys are written in order",
-    "HashSet": "BTreeSet, whose elements are written in order",
-    "IndexMap": "BTreeMap, whose keys are written in order",
-    "IndexSet": "BTreeSet, whose elements are written in order",
-    "BinaryHeap": "Vec",
-    "LinkedList": "Vec or VecDeque",
-    "SmallVec": "Vec",
-    "Rc": "Box, or the value itself",
-    "Arc": "Box, or the value itself",
-    "Cell": "the value itself",
-    "RefCell": "the value itself",
-    "Mutex": "the value itself",
-    "RwLock": "the value itself",
-    "Reverse": "the value itself",
-    "Wrapping": "the number itself",
-    "Saturating": "the number itself",
-    "NonZero": "the number's type, as u32",
-    "Cow": "String, or &'a str where the type borrows",
-    "Result": "an enum of your own with the variants Ok and Err, which has the same bytes",
-    "Duration": "(u64, u32), its seconds and nanoseconds",
-    "SystemTime": "Timestamp, or (u64, u32), the seconds and nanoseconds since 1970",
-    "Instant": "(u64, u32), seconds and nanoseconds since a time of your own",
-    "PathBuf": "String",
-    "OsString": "String",
-    "CString": "ByteBuf",
-    "PhantomData": "() as a field's type, or none",
-    "Range": "a struct with the fields start and end, which has the same bytes",
-    "RangeInclusive": "a struct with the fields start and end, which has the same bytes",
-    "IpAddr": "an enum with the variants V4([u8; 4]) and V6([u8; 16]), which has the same bytes",
-    "Ipv4Addr": "[u8; 4], which has the same bytes",
-    "Ipv6Addr": "[u8; 16], which has the same bytes",
-    "SocketAddr": "([u8; 4], u16), or String",
-    "Uuid": "ByteBuf, or [u8; 16], which is written as a list",
-}
-INSTEAD_OF_STD |= {f"NonZero{kind.upper()}": kind for kind in sorted(PLAIN) if re.fullmatch(r"[iu]\d+", kind)}
-INSTEAD_OF_STD |= {"NonZeroUsize": "usize", "NonZeroIsize": "isize"}
-INSTEAD_OF_STD |= {f"Atomic{kind.capitalize()}": kind for kind in ("bool", "u8", "u16", "u32", "u64", "usize", "i8", "i16", "i32", "i64", "isize")}
+# Types that can't be a field's, and what is written in their place: of Rust, and of std and of crates that many use, where the crate has none of
+# the name.
+INSTEAD, INSTEAD_OF_STD = instead("types"), instead("types of std")
+INSTEAD_OF_STD |= {f"NonZero{kind.capitalize()}": kind for kind in sorted(PLAIN) if re.fullmatch(r"[iu](\d+|size)", kind)}
+INSTEAD_OF_STD |= {f"Atomic{kind.capitalize()}": kind for kind in PLAIN if re.fullmatch(r"bool|[iu]([1-6]\d?|8|size)", kind)}
 # How many aliases a type is written with at most.
 MOST_ALIASES = 100
 

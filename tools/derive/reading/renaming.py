@@ -8,6 +8,7 @@ from __future__ import annotations
 import re
 from typing import Optional
 
+from .instead import instead
 from ..table.kinds import Refused
 
 RULES = "lowercase UPPERCASE PascalCase camelCase snake_case SCREAMING_SNAKE_CASE kebab-case SCREAMING-KEBAB-CASE".split()
@@ -70,28 +71,8 @@ class Notes:
                 raise Refused(f"`{word}` has no meaning here: it is for {WORDS[word]}")
 
 
-# What is written in place of the other words of serde.
-UNUSED = "take it out"
-SERDE = {
-    "alias": "one name is read: declare the type once more with the other, and read that where this one is refused",
-    "skip_serializing": "each field is written: make it an Option, and set it to None",
-    "skip_deserializing": "each field is read: write // derive: default, and a map may be without it",
-    "skip_serializing_if": "each field is written: take it out, and None is written as nil",
-    "flatten": "write the fields of the other struct here, or that struct as one field",
-    "tag": "take it out, and a variant is its name, or a map from its name to its content",
-    "content": "take it out, and a variant is its name, or a map from its name to its content",
-    "untagged": "take it out, or read a Value, and see of which kind it is",
-    "deny_unknown_fields": "take it out, and fields of other names are skipped",
-    "with": "write a type of your own for the field, or ByteBuf for serde_bytes",
-    "serialize_with": "write a type of your own for the field",
-    "deserialize_with": "write a type of your own for the field",
-    "from": "derive the type that it is made from, and make it in code",
-    "into": "derive the type that is made of it, and make that in code",
-    "try_from": "derive the type that it is made from, and make it in code",
-    "transparent": "write a struct of one field without a name, as struct Id(u64)",
-    "other": "take it out, and a variant of another name is refused",
-}
-SERDE |= dict.fromkeys("bound borrow remote getter crate expecting variant_identifier field_identifier".split(), UNUSED)
+# What is written in place of the other words of serde, and of those that have no entry.
+SERDE, UNUSED = instead("words of serde"), "take it out"
 
 
 def checked(word: str, value: str) -> str:

@@ -8,8 +8,9 @@ import re
 from collections.abc import Iterator
 from typing import Callable, Optional
 
+from shared.brackets import split
+
 from .field_types import BROUGHT
-from ..table.kinds import split
 
 USE = re.compile(r"^(?:pub(?:\([^)]*\))? )?use ([^;]+);", re.M)
 CONST = re.compile(r"^(?:pub(?:\([^)]*\))? )?const (\w+)\s*:\s*([^=;]*(?:;[^=;]*)?)=\s*", re.M)

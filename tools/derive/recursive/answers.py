@@ -8,12 +8,16 @@ from ..table.types import Shape
 from .holder_answers import answer, answers_file, held_answers, left_under, measures_file
 from .holders import values_in
 from .leaves import Part, put_in
-from .levels import Again, Level, after_held, brought_in, called, has_map, held_in, inside, is_apart, is_map, named_in
+from .forms import Again
+from .levels import Level, after_held, brought_in, called, has_map, held_in, inside, is_apart, is_map, named_in
 from .struct_answers import TAKES, fields_measures, struct_answers
 from .struct_proofs import fields_proofs, proof_tables
 from .enums import sections
 from .given import put_together, words_of
 from shared.terms import numbered
+from shared.texts import Texts
+
+TEXTS = Texts(__file__)
 
 
 def no_byte(part: Optional[Part]) -> str:
@@ -25,14 +29,8 @@ def no_byte(part: Optional[Part]) -> str:
 
 def proof_sections(level: Level) -> list[tuple[str, str]]:
     """The lemmas, by what they depend on."""
-    name, low = level.name, level.low
     lines = "".join(f"level_no_byte {level.made(shape, named_in(part))} = {no_byte(part)}\n" for shape, part in level.variants)
-    text = f"""
-level_no_byte : (x : {name}-F (Option Data)) → byte_of ({low}_level x) ≡ None
-{lines}
-pub {low}_no_byte : (v : {name}) → byte_of ({low}_data v) ≡ None
-{low}_no_byte v = ap byte_of ({low}_is v) ∙ level_no_byte _
-"""
+    text = TEXTS.fill("proof_sections", level, lines=lines)
     slots = [f"\n-- ---- what was read so far of the fields of {of.shape.name}\n{fields_proofs(of)}" for of in level.contents_again()]
     return [("D", text), ("R", "".join(slots))]
 
@@ -93,15 +91,9 @@ def value_answer(level: Level, shape: Shape, part: Optional[Part], call: str) ->
 
 def map_writing(level: Level, shape: Shape, part: Part, made: str, call: str) -> str:
     """That a variant that holds a map is written as one level of it."""
-    name, low, goal = level.name, level.low, f"returns-in-{shape.name}-clause-writes"
+    goal = f'returns-in-{shape.name}-clause-writes'
     writes = f"{call}.ensures.writes" if is_map(part) else f"({TAKES} {call}.ensures.writes)"
-    return f"""
-pub {goal} : goal.{goal}
-{goal} g t c =
-    let a = c.in-{shape.name}.value in
-    let is = ap out-{name} (c.in-{shape.name}.is ∙ sym (rolls-{shape.name} a)) ∙ out-roll-{name} ({made}) in
-    rw ({low}_is_at c.args.self.now ({made}) is{THEN[bool(level.given)]}{low}_at_{shape.name} a) {writes}
-"""
+    return TEXTS.fill("map_writing", level, goal=goal, variant=shape.name, made=made, then=THEN[bool(level.given)], writes=writes)
 
 
 def row_writing(level: Level, shape: Shape, part: Part, opened_before: bool, ended_before: bool) -> str:
@@ -183,10 +175,7 @@ def room_answer(arm: Arm) -> str:
     # the first call's goal doesn't name its arm
     if arm.call != "newtype_variant_with":
         goal += "-in-Ok" + f"-eq{arm.at}-default" * (not arm.is_last())
-    return answer(goal, f""" λ b p q.
-    let h = content_room_falls g.R.Source _ _ c.args.de.now _ {arm.fact()}.ensures.opened b in
-    let e = ap (λ (z : _). max 1 z.room) q in
-    (omega (arith, h, e, c.decreases), ((λ a m. m), ((λ a m. m), (λ a m. m))))""")
+    return answer(goal, TEXTS.fill("room_answer", fact=arm.fact()))
 
 
 def content_of(arm: Arm) -> tuple[str, str, str, str, str]:
@@ -229,16 +218,13 @@ def variant_answers(arm: Arm) -> str:
 
 def enum_answers(level: Level) -> str:
     """How the type is read."""
-    name, low = level.name, level.low
+    low = level.low
     text, calls = "", {}
     for at, (shape, part) in enumerate(level.variants):
         word = "newtype_variant_with" if part else "unit_variant"
         text += variant_answers(Arm(level, at, shape, part, numbered(word, calls.get(word, 0))))
         calls[word] = calls.get(word, 0) + 1
-    return text + answer(f"read_{low}-returns-in-Err", f""" record {{
-  law = lawful_err _ (λ m v. OfVariant {low}_names ({name}Case Is{name} v) m) _ _ _ _ {low}_variant
-      (variant_unopened _ _ ({name}Case Is{name}) _ _ _ (search rules) _ (rw c.in-Err.is at c.deserialize_enum_by.follows.holds-at-none));
-}}""")
+    return text + answer(f"read_{low}-returns-in-Err", TEXTS.fill("enum_answers", level))
 
 
 def reading_answers(level: Level, place: str) -> str:

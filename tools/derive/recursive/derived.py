@@ -8,12 +8,14 @@ specs/TRounds.antt. Each type of the crate that is a leaf has a file, specs/TLea
 from __future__ import annotations
 
 import contextlib
+import dataclasses
 import os
+import re
 from typing import TYPE_CHECKING, Iterator, Optional
 
 from shared.files import read, write
 
-from ..table.types import Field, Shape
+from ..table.types import Declared, Field, Shape
 from ..table.kinds import Refused, identifiers
 from ..reading.declarations import declared_at, lines
 from ..reading.modules import ROOT, Module, derived_files
@@ -22,7 +24,8 @@ from . import answers, code, enums, given, rounds, struct_answers, struct_proofs
 from .holders import by_parts, leaf_readers, lent, reading
 from .holders import rounds as round_trip
 from .leaves import Part
-from .levels import AGAIN, BOX, MAPS, ORDERS, Level
+from .forms import AGAIN, BOX, MAPS, ORDERS
+from .levels import Level
 from .own_leaves import leaf_file
 
 if TYPE_CHECKING:
@@ -129,9 +132,31 @@ def refusal_of_field(own: Own, shape: Shape, field: Field) -> Optional[str]:
     holds = f"{name} is a {field.kind}" if shape.kind == "named" else f"{shape.name} holds a {field.kind}"
     if of.name not in identifiers(field.kind):
         return f"{holds}, which isn't known here: write a struct that holds it"
-    again = ", ".join(it.kind.replace("{kind}", of.name) for it in AGAIN if it is not BOX or of.variants)
+    return f"{holds}: write {alike(own, field) or forms(of)}"
+
+
+# What is written in place of a type that holds this one, {name}: the same content, where it isn't held so.
+ALIKE = (
+    (r"\[(.*); \d+\]", r"Vec<\1>"), (r"BTreeSet<(.*)>", r"Vec<\1>"), (r"Box<(?!{name}>)(.*)>", r"\1"), (r"Option<(Option<.*>)>", r"\1"),
+    (r"(.*)\bOption<{name}>(.*)", r"\1Option<Box<{name}>>\2"), (r"(Vec|VecDeque)<Box<{name}>>", r"\1<{name}>"),
+)
+
+
+def alike(own: Own, field: Field) -> str:
+    """The type that such a type may hold in place of this field's, where there is one of the same content."""
+    kind, of = field.kind, own.of
+    for form, instead in ALIKE:
+        kind = re.sub(f"^{form.format(name=of.name)}$", instead.format(name=of.name), kind)
+    part = part_of(own, dataclasses.replace(field, kind=kind))
+    return kind if part and kind != field.kind and not (of.shape and part.word == "box") else ""
+
+
+def forms(of: Declared) -> str:
+    """The types in which such a type may be again."""
+    again = [it.kind.replace("{kind}", of.name) for it in AGAIN if it is not BOX or of.variants]
+    again += [f"Option<Vec<{of.name}>>", f"Vec<(String, {of.name})>", *[f"Vec<Option<Box<{of.name}>>>"] * bool(of.shape)]
     keys = f"{', '.join([*ORDERS][:-1])} or {[*ORDERS][-1]}"
-    return f"{holds}: write {again} or BTreeMap<K, {of.name}>, where K is {keys}"
+    return f"{', '.join(again)} or BTreeMap<K, {of.name}>, where K is {keys}"
 
 
 def items(module: Module, wanted: list[Own]) -> list[str]:

@@ -10,14 +10,18 @@ from .fields import counted_lines, from_lines, names_lines, pairs_of, wider_line
 from .given import in_order
 from .leaves import Part
 from .shapes import HERE
-from .levels import Again, Content, Level, called, cases, cases_of, data_from, each, file_of, has_map, held_in, inductive, inside
+from .forms import Again
+from .levels import Content, Level, called, cases, cases_of, data_from, each, file_of, fits_of, has_map, held_in, inductive, inside
 from .levels import is_apart, is_mapped, named_in, peano, product, wider
 from shared.terms import bracketed
+from shared.texts import Texts
+
+TEXTS = Texts(__file__)
 
 
 def shape_of(level: Level) -> str:
     """What it is read from, by steps."""
-    name, low = level.name, level.low
+    name = level.name
     cases = "NoCase"
     for shape, part in reversed(level.variants):
         made = level.made(shape, inside(part)).strip("()")
@@ -27,23 +31,11 @@ def shape_of(level: Level) -> str:
             reads = part.reads.format(reads="reads", k="k", a="a")
             head = f"λ c. (a : {part.term}) × (out-{name} v ≡ {made}) × Content (λ k. {reads}) c"
         cases = f"Case ({head})\n    {cases}" if cases == "NoCase" else f"Case ({head})\n    ({cases})"
-    return f"""
-abbrev pub {low}_names : List (List ℕ)
-{low}_names = {level.names()}
-
--- ---- what it is read from
-{"".join([*(row_shape(level, shape, part) for shape, part in level.rows()), *(fields_shape(of) for of in level.contents())])}
-abbrev pub {name}Case : (Msg → {name} → Type 0) → {name} → ℕ × Option Msg → Type 0
-{name}Case reads v = {cases}
-
-abbrev pub {name}In : ℕ → Msg → {name} → Type 0
-{name}In zero m v = ⊥
-{name}In (suc n) m v = OfVariant {low}_names ({name}Case ({name}In n) v) m
-
--- in some number of steps the message is read as the value
-abbrev pub Is{name} : Msg → {name} → Type 0
-Is{name} m v = InSteps {name}In m v
-"""
+    return TEXTS.fill(
+        "shape_of", level, names=level.names(),
+        contents=''.join([*(row_shape(level, shape, part) for shape, part in level.rows()), *(fields_shape(of) for of in level.contents())]),
+        cases=cases,
+    )
 
 
 def row_reads(reads: Iterable[str]) -> str:
@@ -55,22 +47,19 @@ def row_shape(level: Level, shape: Shape, part: Part) -> str:
     """What several values of a variant are read from."""
     word, again = f"{level.name}Row{shape.name}", not part.is_leaf
     reads = [f"(λ j. {of.reads.format(reads='reads', k='j', a=value)})" for of, value in zip(part.held, inside(part))]
-    return f"""
--- the values of {shape.name}, one after another
-abbrev pub {word} : {f'(Msg → {level.name} → Type 0) → ' * again}Msg → {part.term} → Type 0
-{word} {'reads ' * again}m a = OfRow ({row_reads(reads)}) m
-"""
+    return TEXTS.fill(
+        "row_shape", variant=shape.name, word=word, by=f'(Msg → {level.name} → Type 0) → ' * again, term=part.term, reads='reads ' * again,
+        row_reads=row_reads(reads),
+    )
 
 
 def fields_shape(of: Content) -> str:
     """What the named fields of a variant are read from."""
-    return f"""
--- the fields of {of.shape.name}, and those from each place on
-{names_lines(of)[1:]}
-{from_lines(of)}
-abbrev pub {of.name}Read : {f'(Msg → {of.whole.name} → Type 0) → ' * (not of.is_leaf())}Msg → {of.term} → Type 0
-{of.said('Read', 'reads')} m a = OfFields {of.low}_names (λ fs. {of.said('Fields', 'reads')} fs a) m
-"""
+    return TEXTS.fill(
+        "fields_shape", of, variant=of.shape.name, names=names_lines(of)[1:], fields=from_lines(of),
+        by=f'(Msg → {of.whole.name} → Type 0) → ' * (not of.is_leaf()), term=of.term, read=of.said('Read', 'reads'),
+        said_2=of.said('Fields', 'reads'),
+    )
 
 
 def content_data(shape: Shape, data: list[str]) -> str:
@@ -92,21 +81,7 @@ def written_of(level: Level) -> list[tuple[str, str]]:
         made = level.made(shape, names)
         datas += f"{low}_level {made} = {content_data(shape, [of.data.format(a=name) for of, name in zip(held, names)])}\n"
         fits += f"{low}_layer_fits X at fits {made} = {product([of.fits.format(a=name, fits='fits').replace(HERE, 'X') for of, name in zip(held, names)], '⊤')}\n"
-    return [("D", f"""
--- ---- what it is written as: one level, of what its parts are written as
-
-abbrev pub {low}_level : {name}-F (Option Data) → Option Data
-{datas}
-abbrev pub {low}_data : {name} → Option Data
-{low}_data = fold-{name} (Option Data) {low}_level
-"""), ("F", f"""
--- ---- what is known of a value
-
-abbrev pub {low}_layer_fits : (X : Type 0) → (X → {name}) → (X → Type 0) → {name}-F X → Type 0
-{fits}
-abbrev pub {low}_fits : {name} → Type 0
-{low}_fits = rec-{name} (Type 0) {low}_layer_fits
-""")]
+    return [("D", TEXTS.fill("data_of", level, datas=datas)), fits_of(level, fits)]
 
 
 def steps_of(level: Level) -> str:
@@ -126,28 +101,11 @@ def steps_of(level: Level) -> str:
     counted += f"{low}_in v {end} c h = absurd h\n"
     case = f"{name}Case"
     rows, contents = [(shape, part) for shape, part in level.rows() if isinstance(part, Again)], level.contents_again()
-    return f"""
--- ---- one step more
-{"".join([*(row_wider(level, shape, part) for shape, part in rows), *(fields_wider(of) for of in contents)])}
-{low}_as : (P Q : Msg → {name} → Type 0) → ((m : Msg) (v : {name}) → P m v → Q m v) → (v : {name}) (k : ℕ) (c : Option Msg) → {case} P v (k, c) → {case} Q v (k, c)
-{wider}
-{low}_up : (n : ℕ) (m : Msg) (v : {name}) → {name}In n m v → {name}In (suc n) m v
-{low}_up zero m v h = absurd h
-{low}_up (suc n) m v h =
-    variant_as {low}_names ({case} ({name}In n) v) ({case} ({name}In (suc n)) v) ({low}_as ({name}In n) ({name}In (suc n)) ({low}_up n) v) m h
-{"".join([*(row_counted(level, shape, part) for shape, part in rows), *(fields_counted(of) for of in contents)])}
-{low}_in : (v : {name}) (k : ℕ) (c : Option Msg) → {case} Is{name} v (k, c) → (n : ℕ) × {case} ({name}In n) v (k, c)
-{counted}
-pub {low}_made : (v : {name}) (m : Msg) → OfVariant {low}_names ({case} Is{name} v) m → Is{name} m v
-{low}_made v m h = let i = variant_in {low}_names ({case} Is{name} v) (λ n. {case} ({name}In n) v) ({low}_in v) m h in (suc i.0, i.1)
-
-pub {low}_out : (m : Msg) (v : {name}) → Is{name} m v → OfVariant {low}_names ({case} Is{name} v) m
-{low}_out m v (zero, h) = absurd h
-{low}_out m v (suc n, h) = variant_as {low}_names ({case} ({name}In n) v) ({case} Is{name} v) ({low}_as ({name}In n) Is{name} (λ k w p. (n, p)) v) m h
-
-pub {low}_variant : (m : Msg) → Readable Is{name} m → Readable (λ k v. OfVariant {low}_names ({case} Is{name} v) k) m
-{low}_variant m (v, h) = (v, {low}_out m v h)
-"""
+    return TEXTS.fill(
+        "steps_of", level, wider_contents=''.join([*(row_wider(level, shape, part) for shape, part in rows), *(fields_wider(of) for of in contents)]),
+        case=case, wider=wider,
+        counted_contents=''.join([*(row_counted(level, shape, part) for shape, part in rows), *(fields_counted(of) for of in contents)]), counted=counted,
+    )
 
 
 def items_wider(part: Part, by: tuple[str, str, str], start: int = 0) -> str:
@@ -158,11 +116,8 @@ def items_wider(part: Part, by: tuple[str, str, str], start: int = 0) -> str:
 
 def row_wider(level: Level, shape: Shape, part: Again) -> str:
     """What one reading of several values says by another."""
-    name, low, word = level.name, level.low, f"{level.name}Row{shape.name}"
-    return f"""
-{low}_as_{shape.name} : (P Q : Msg → {name} → Type 0) → ((m : Msg) (v : {name}) → P m v → Q m v) → (m : Msg) (a : {part.term}) → {word} P m a → {word} Q m a
-{low}_as_{shape.name} P Q f m a h = of_row_as _ _ ({items_wider(part, ("P", "Q", "f"))}) m h
-"""
+    word = f'{level.name}Row{shape.name}'
+    return TEXTS.fill("row_wider", level, variant=shape.name, term=part.term, word=word, items=items_wider(part, ('P', 'Q', 'f')))
 
 
 def row_counted(level: Level, shape: Shape, part: Again) -> str:
@@ -173,30 +128,21 @@ def row_counted(level: Level, shape: Shape, part: Again) -> str:
     for at, (of, value) in enumerate(zip(part.held, inside(part))):
         into = f"(λ m h. {called(of.counted, value)})" if isinstance(of, Again) else "(λ m h. (zero, h))"
         steps.append(f"then_in _ _ _ _ (λ i. {wider(of, value, by)}) (λ i. {items_wider(part, by, at + 1)}) {into}")
-    return f"""
-{low}_in_{shape.name} : (m : Msg) (a : {part.term}) → {word} Is{name} m a → (n : ℕ) × {word} ({name}In n) m a
-{low}_in_{shape.name} m a h = of_row_in _ _ ({chained(steps, '(λ ms h. (zero, h))')}) m h
-"""
+    return TEXTS.fill("row_counted", level, variant=shape.name, term=part.term, word=word, steps=chained(steps, '(λ ms h. (zero, h))'))
 
 
 def fields_wider(of: Content) -> str:
     """What one reading of a variant's named fields says by another."""
     name, at = of.whole.name, f"{of.whole.low}_as_{of.shape.name}"
     fields = [f"(λ fs. {of.name}Fields {reads} fs a)" for reads in "PQ"]
-    return f"""
-{wider_lines(of)}{at} : (P Q : Msg → {name} → Type 0) → ((m : Msg) (v : {name}) → P m v → Q m v) → (m : Msg) (a : {of.term}) → {of.name}Read P m a → {of.name}Read Q m a
-{at} P Q f m a h = fields_as {of.low}_names {' '.join(fields)} ({of.low}_as0 P Q f a) m h
-"""
+    return TEXTS.fill("fields_wider", of, lines=wider_lines(of), at=at, whole=name, term=of.term, fields=' '.join(fields))
 
 
 def fields_counted(of: Content) -> str:
     """The number of steps in which they are read."""
     steps, at = f"{of.whole.name}In", f"{of.whole.low}_in_{of.shape.name}"
     fields = f"(λ fs. {of.name}Fields {of.reads} fs a) (λ n fs. {of.name}Fields ({steps} n) fs a)"
-    return f"""
-{counted_lines(of)}{at} : (m : Msg) (a : {of.term}) → {of.name}Read {of.reads} m a → (n : ℕ) × {of.name}Read ({steps} n) m a
-{at} m a h = fields_in {of.low}_names {fields} ({of.low}_in0 a) m h
-"""
+    return TEXTS.fill("fields_counted", of, lines=counted_lines(of), at=at, term=of.term, reads=of.reads, steps=steps, fields=fields)
 
 
 def last_place(count: int) -> str:

@@ -6,8 +6,12 @@ from collections.abc import Iterable
 from ..table.types import Field
 from ..flat.terms import codes
 from .leaves import put_in
-from .levels import Again, Level, wider
+from .forms import Again
+from .levels import Level, wider
 from shared.terms import list_of
+from shared.texts import Texts
+
+TEXTS = Texts(__file__)
 
 
 def there(level: Level, at: int, reads: str, value: str) -> str:
@@ -39,10 +43,9 @@ def from_lines(level: Level) -> str:
         holds = f"Field {there(level, at, 'reads', 'x')} {missing(level, at, 'x')} {rest}" if at < count else "NoField"
         kind = f"{by}{level.opened} → List (Option Msg) → Type 0"
         fields.append(f"abbrev pub {level.name}From{at} : {kind}\n{level.said(f'From{at}', 'reads')} x fs = {holds} fs\n")
-    return "\n".join(fields) + f"""
-abbrev pub {level.name}Fields : {by}List (Option Msg) → {level.term} → Type 0
-{level.said('Fields', 'reads')} fs v = {level.said('From0', 'reads')} {level.own()} fs
-"""
+    return "\n".join(fields) + TEXTS.fill(
+        "from_lines", level, by=by, term=level.term, said=level.said('Fields', 'reads'), said_2=level.said('From0', 'reads'), own=level.own(),
+    )
 
 
 def wider_lines(level: Level) -> str:

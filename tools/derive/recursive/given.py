@@ -9,7 +9,9 @@ import re
 from collections.abc import Iterable
 from typing import TYPE_CHECKING, Optional
 
-from ..table.kinds import parted, split
+from shared.brackets import split
+
+from ..table.kinds import parted
 from ..flat.alikes import Alikes
 from ..flat.rounds import Onlys, Rounds
 from ..table.own import Own

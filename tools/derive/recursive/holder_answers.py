@@ -2,12 +2,17 @@
 from __future__ import annotations
 
 
+from ..words import TABLES, filled, joined
 from .given import answered
 from .holders import holder
 from .leaves import Part
-from .levels import Again, Level, brought_in, is_map, tables
+from .forms import Again
+from .levels import Level, brought_in, is_map, tables
 from .map_answers import map_answers, map_measures
 from .row_answers import row_answers
+from shared.texts import Texts
+
+TEXTS = Texts(__file__)
 
 
 def goals_of(level: Level, place: str) -> str:
@@ -22,36 +27,11 @@ def fields_words(level: Level) -> list[str]:
 
 
 def answers_file(level: Level, place: str, text: str) -> str:
-    name, low, declared = level.name, level.low, level.declared
-    table = tables(level)
-    table["std.proofs.Common"] += " max rules arith false length Result Ok Err"
-    table["rmp_wire.specs.Msg"] += " no_items item"
-    table |= {
-        "std.proofs.lemmas.Result": "err_from_is_err_and",
-        "std.proofs.lemmas.Int": "to_z-of_z",
-        "rmp_encode.proofs.Going": "unopened",
-        "rmp_encode.proofs.Parts": "rests_at part_takes",
-        "rmp_decode.specs.Maps": f"{table['rmp_decode.specs.Maps']} ReadsPairs Collects IsMapOpen",
-        "rmp_decode.specs.Seq": "OfRow IsOpen",
-        "rmp_decode.proofs.Laws": "lawful_ok lawful_err",
-        "rmp_decode.proofs.Maps": "flat map_unopened map_done map_unkept map_take map_key key_next value_next entries_step gathers_start gathers_step",
-        "rmp_decode.proofs.Rows": "push",
-        "rmp_decode.proofs.Seqs": "values_start values_step via Values run_start run_step seq_unopened seq_take seq_over seq_done and_then_count no_more_count",
-        "rmp_decode.proofs.Variants": "variant_ok variant_err variant_unopened readable given_read given_refused",
-        f"{declared}.TheVariants": " ".join(f"rolls-{shape.name}" for shape, _ in level.variants),
-        f"{declared}.TheViews": level.brought("out-roll-{name}") if level.fields else table[f"{declared}.TheViews"],
-        "rmp_decode.specs.FieldAccess": "IsStructOpen TakesPlace",
-        "rmp_decode.specs.Names": "bytes_of",
-        "rmp_decode.proofs.FieldWiths": "field_taken field_refused",
-        "rmp_decode.proofs.StructRuns": "struct_start struct_step struct_place struct_value struct_met struct_missing struct_over struct_done",
-        "rmp_decode.proofs.Structs": "fields_unopened",
-        "rmp_recursive.proofs.Fields": "same_then field_steps run_reference not_missing",
-        f"{level.crate}.proofs.{name}Levels": " ".join(word for of in (level, *level.contents_again()) for word in fields_words(of)),
-        "rmp_recursive.proofs.Queues": "queue_row queue_done",
-        "rmp_recursive.proofs.Maps": "no_key key_got key_refused value_got value_refused owing to_come_some value_room",
-        "rmp_recursive.proofs.Parts": "on_ok ok_holds at_most variant_done vec_row vec_done row_unopened row_refused row_unkept part_room part_steps steps_at other_steps"
-        " content_room_falls row_short lawful_at lent_law item_taken item_refused option_law some_if some_if_err none_left never_none",
-    }
+    rolls, fields = [f"rolls-{shape.name}" for shape, _ in level.variants], [word for of in (level, *level.contents_again()) for word in fields_words(of)]
+    words = {"declared": level.declared, "crate": level.crate, "name": level.name, "rolls": " ".join(rolls), "fields": " ".join(fields)}
+    table = joined(tables(level), filled(TABLES["recursive answers"], **words))
+    if level.fields:
+        table[f"{level.declared}.TheViews"] = level.brought("out-roll-{name}")
     text = answered(level, text)
     return brought_in(text, table) + goals_of(level, place) + text
 
@@ -83,10 +63,7 @@ def unkept(name: str, row: str, lets: str, opened: str) -> str:
     breaks it off in a type of many parts."""
     now = "c.next_element_with.new.self"
     facts = " ∙ ".join(f"sym {it}.same_reference" for it in ["c.in_ok-seq.ensures", "c.loop-items.invariant.run", "c.in_ok-item.ensures"])
-    return f"""    rw (p.1, p.2) (record {{
-      law = lawful_at g.R.Source _ _ _ {now}.de.now _ (let same = {facts} in search rules) (
-    {lets}    lawful_err _ (Row {name}) _ _ _ _ {row} (row_unkept g.R.Source {name} _ c.in_ok-seq.seq {now} _ {opened} v _ refl));
-    }})"""
+    return TEXTS.fill("unkept", now=now, facts=facts, lets=lets, name=name, row=row, opened=opened)
 
 
 def list_answers(level: Level, part: Again) -> str:
@@ -96,16 +73,9 @@ def list_answers(level: Level, part: Again) -> str:
     row = f"({kind}_row {name})"
     start = f"let p = err_from_is_err_and c.from_residual{{at}}.result c.from_residual{{at}}.ensures.1 in\n"
     run = "let r = c.loop-items.invariant in\n    let e = c.in_{}-item.ensures in\n"
-    taken = f"""let is = c.in-Some.is in
-    let some = some_if c.loop-items.seq.left c.in-Some.item _ is (e.none r.run.still.sound) in
-    let k = item_taken g.R.Source {name} c.loop-items.seq c.next_element_with.new.self r.run.still e.list (λ p q r h. h) c.in-Some.item
-    (rw is at (e.part r.run.still.sound some)) e.still in
-"""
+    taken = TEXTS.fill("list_taken", reads=name)
     step = f"values_step g.R.Source {name} c.in_ok-seq.seq c.loop-items.seq c.next_element_with.new.self c.loop-items.items.items c.in-Some.item r k e.same_reference"
-    over = f"""let z = none_left c.loop-items.seq.left (λ l. never_none g.R.Source c.loop-items.seq c.next_element_with.new.self
-    (rw c.in_default.is at (e.part r.run.still.sound l))) in
-    let n = (e.none r.run.still.sound z).1 in
-"""
+    over = TEXTS.fill("list_over")
     opened = "c.in_ok-seq.ensures.opened"
 
     def refused(fact: str) -> str:
@@ -116,17 +86,11 @@ def list_answers(level: Level, part: Again) -> str:
         + refused(f"row_unopened g.R.Source {name} _ _ _ (rw c.in_err-seq.was at c.deserialize_seq.follows.holds-at-none)") + ")",
         "loop-items-init": f"rw c.new-items.ensures.items (values_start g.R.Source {name} c.in_ok-seq.seq {opened}.opened)",
         "next_element_with-requires": "λ s some d l p q.\n" + room_of(level, f"g.R.Source c.args.de.now c.in_ok-seq.seq c.loop-items.seq _ {opened} c.loop-items.invariant.run d l"),
-        "returns-in_err-item": start.format(at="-in_err-item") + "    " + run.format("err") + f"""    let some = some_if_err c.loop-items.seq.left _ (e.none r.run.still.sound) in
-    let f = item_refused g.R.Source {name} c.loop-items.seq c.next_element_with.new.self r.run.still e.list (λ p q r h. h) _ some
-    (e.part r.run.still.sound some) in
-    rw (p.1, p.2) (""" + refused(f"row_refused g.R.Source {name} _ c.in_ok-seq.seq c.loop-items.seq c.loop-items.items.items {opened} r _\n"
-                                        "          c.next_element_with.new.self _ f (e.marked r.run.still.marked) (search rules)") + ")",
+        "returns-in_err-item": start.format(at="-in_err-item") + "    " + run.format("err") + TEXTS.fill("list_refused", reads=name)
+        + refused(f"row_refused g.R.Source {name} _ c.in_ok-seq.seq c.loop-items.seq c.loop-items.items.items {opened} r _\n"
+                  "          c.next_element_with.new.self _ f (e.marked r.run.still.marked) (search rules)") + ")",
         "loop-items-preserved": run.format("ok") + "    " + taken + f"    rw c.in_ok-{push}.ensures.items ({step})",
-        "returns": run.format("ok") + "    " + over + f"""    let d = (c.in_ok-end.ensures.ok (subst IsOpen (sym n) r.run.still)).1 in
-    record {{
-      law = {kind}_done g.R.Source {name} _ c.in_ok-seq.seq c.loop-items.seq c.loop-items.items {opened} r _ z
-          (via c.end.new.self.0 (search rules) (d ∙ ap (λ s. record s.de.now {{ failed = false }}) n));
-    }}""",
+        "returns": run.format("ok") + "    " + over + TEXTS.fill("list_done", kind=kind, reads=name, opened=opened),
         f"returns-in_err-{push}": start.format(at=f"-in_err-{push}") + unkept(name, row, f"{run.format('ok')}    {taken}    let v = {step} in\n", opened),
         "returns-in_err-end": run.format("ok") + "    " + over + "    let d = (c.in_err-end.ensures.err (subst IsOpen (sym n) r.run.still)).0 in\n"
         "    absurd (omega (arith, z, d, ap (λ s. s.left) n))",
@@ -172,13 +136,7 @@ def held_answers(level: Level) -> str:
 
 def loop_measures(loop: str, invariant: str, left: str) -> str:
     """What holds in a loop, and what falls."""
-    return f"""
-abbrev pub invariant-{loop} : goal.invariant-{loop}
-invariant-{loop} g l = {invariant}
-
-abbrev pub decreases-{loop} : goal.decreases-{loop}
-decreases-{loop} g l = {left}
-"""
+    return TEXTS.fill("loop_measures", loop=loop, invariant=invariant, left=left)
 
 
 # The call of what reads a part again in another, by the form of the other.

@@ -11,7 +11,8 @@ from shared.halves import FIELDS
 from ..table.own import Own
 from .given import given_by, in_brackets, laws, parameters, quoted
 from .leaves import Part
-from .levels import BOX, Again, Content, Level, is_map
+from .forms import BOX, Again
+from .levels import Content, Level, is_map
 from shared.terms import list_of, texts, tuple_of
 
 LAW = "ensures law {{ Lawful R.Source {reads} de.old de.new result }}"

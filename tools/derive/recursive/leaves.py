@@ -7,10 +7,11 @@ from collections.abc import Iterable, Iterator
 from typing import TYPE_CHECKING, Optional
 
 from ..table.types import Declared
-from ..table.kinds import parted, split
+from ..table.kinds import parted
 from ..table.plain import LAWS as ROUNDS
 from ..table.own import Own
 from ..flat.terms import chained, underscored
+from shared.brackets import split
 from shared.terms import list_of, tuple_of
 
 if TYPE_CHECKING:

@@ -12,195 +12,15 @@ from ..table.kinds import identifiers
 from ..flat.proofs import SIGNED
 from ..table.own import Own
 from ..flat.terms import codes, underscored
+from ..words import TABLES
+from .forms import AGAIN, ALONE, BOX, MAPS, OPTION, ORDERS, Again, Keys
 from .given import given_parts, homes_of, put_together
-from .leaves import LEAVES, Part, Values, leaf_of, put_in, terms_of
+from .leaves import Part, leaf_of, put_in, terms_of
 from .shapes import shape_of
 from shared.terms import tuple_of
+from shared.texts import Texts
 
-
-@dataclasses.dataclass(frozen=True)
-class Again(Part):
-    """The type {name} again, in a list, a box or an option, whose functions begin with {low}."""
-
-    # how its values are told apart where a level is mapped, and for each that P holds of its parts, and what is known of it at a place i
-    # between a level's parts and theirs
-    patterns: tuple[tuple[str, str, str], ...] = ()
-    # one step of its reading by another, and the number of its steps with what is read in them
-    wider: str = ""
-    counted: str = ""
-    # that P holds of its parts
-    parts: str = ""
-    # what is known of it from that it was written
-    known: str = "h"
-    # what it is written as, over the type's data, and that this isn't refused
-    own: str = ""
-    is_some: str = "h"
-    # the keys of a map of it, and what it is written as, at i between what its mapped values are written as and what its values are
-    keys: Optional[Part] = None
-    mapped: str = ""
-    # its form: the type alone, a list, a queue, a box, an option, a map or a row of values; and what is in it that isn't the type alone
-    form: str = ""
-    inner: Optional[Again] = None
-    # that what has the same content, {e}, is written alike in one way of writing the parts that are given
-    told: str = ""
-
-    @property
-    def is_leaf(self) -> bool:
-        return False
-
-    def alike_by(self, value: str, other: str, fact: str, fit: str = "") -> str:
-        return super().alike_by(value, other, self.told.format(v=value, w=other, e=fact), fit)
-
-    def of(self, level: Level) -> Again:
-        """The same of a type."""
-        def told(it: object) -> object:
-            if isinstance(it, tuple):
-                return tuple(told(one) for one in it)
-            if not isinstance(it, str):
-                return it
-            return it.replace("{name}", level.name).replace("{low}", level.low).replace("{kind}", level.kind).replace("{bound}", level.bound)
-
-        words = {field.name: told(getattr(self, field.name)) for field in dataclasses.fields(self)}
-        return Again(**words | ({} if level.given else {"told": "{e}"}))
-
-
-LIST = Again(
-    "Vec<{kind}>", "Vec {name} Global", "Row {reads} {k} {a}.items", "slice_of {a}.items", "AllByRecursion {fits} {a}.items",
-    row="""slice_row s (map {low}_data {a}.items) (λ ms. ReadsEach Is{name} ms {a}.items)
-      (each_row s {low}_data {name}Back Is{name} (λ w p. p) {a}.items (each_from {low}_fits {name}Back {a}.items h {fit}))""",
-    only="""list_only s (slice_of (map {low}_data {a}.items)) (λ us. us.items) Is{name} Same{name} {a}.items
-      (slice_row s (map {low}_data {a}.items) (λ ms. ReadsEach (Only Is{name} Same{name}) ms {a}.items)
-      (each_row s {low}_data {name}Only (Only Is{name} Same{name}) (λ w p. p) {a}.items (each_from {low}_fits {name}Only {a}.items h {fit})))""",
-    word="list",
-    form="list",
-    patterns=(("a", "each_holds P first h a.items", "through at k a.items i"),),
-    wider="row_as P Q f m a.items h",
-    counted="row_in {name}In {low}_up m a.items h",
-    parts="All P {a}.items",
-    known="all_by _ a.items h",
-    own="slice_of (map {low}_data {a}.items)",
-    is_some="(slice_some (map {low}_data {a}.items) (each_data {low}_data {a}.items h))",
-    same="Alike Same{name} x.items y.items",
-    alike="ap slice_of (map_alike {low}_data {v}.items {w}.items {e})",
-    told="(alike_as Same{name} (λ v w. {low}_data v ≡ {low}_data w) (λ v w h. h{bound}) {v}.items {w}.items {e})",
-)
-
-QUEUE = dataclasses.replace(
-    LIST, kind="VecDeque<{kind}>", term="VecDeque {name} Global", word="queue", form="queue",
-    **{word: getattr(LIST, word).replace("slice_", "sequence_") for word in ("data", "row", "only", "own", "is_some", "alike")}, other="sequence_other s _",
-)
-LIST = dataclasses.replace(LIST, other="slice_other s _")
-
-# The type alone, as it is inside of others.
-ALONE = Again(
-    "{kind}", "{name}", "{reads} {k} {a}", "{a}", "{fits} {a}",
-    row="h {fit}",
-    only="h {fit}",
-    form="alone",
-    patterns=(("a", "h a", "k (at a)"),),
-    wider="f m a h",
-    counted="h",
-    parts="P {a}",
-    own="{low}_data {a}",
-    same="Same{name} x y",
-    alike="{e}",
-    told="({e}{bound})",
-)
-
-BOX = Again(
-    "Box<{kind}>", "Box {name} Global", "{reads} {k} {a}.value", "{a}.value", "{fits} {a}.value",
-    row="h {fit}",
-    only="inside_only s ({low}_data {a}.value) (λ b. b.value) Is{name} Same{name} {a}.value (h {fit})",
-    word="box",
-    form="box",
-    patterns=(("a", "h a.value", "k (at a.value)"),),
-    wider="f m a.value h",
-    counted="h",
-    parts="P {a}.value",
-    own="{low}_data {a}.value",
-    same="Same{name} x.value y.value",
-    alike="{e}",
-    told="({e}{bound})",
-)
-
-BOXED = "(b : Box {name} Global)"
-OPTION = Again(
-    "Option<Box<{kind}>>", "Option (Box {name} Global)", "IsOption (Boxed {reads}) {k} {a}", "option_of (λ b. b.value) {a}",
-    "IfSome {a} (λ b. {fits} b.value)",
-    row=f"""option_row s (λ {BOXED}. {{low}}_data b.value) (λ b. {{name}}Back b.value) (Boxed Is{{name}})
-      (λ b. {{low}}_other b.value) (λ b p. p) {{a}} (option_from (λ {BOXED}. {{low}}_fits b.value) (λ b. {{name}}Back b.value) {{a}} h {{fit}})""",
-    only=f"""option_only s (option_of (λ {BOXED}. {{low}}_data b.value) {{a}}) (Boxed Is{{name}}) (λ b c. Same{{name}} b.value c.value) {{a}}
-      (option_row s (λ {BOXED}. {{low}}_data b.value) (λ b. {{name}}Only b.value) (Only (Boxed Is{{name}}) (λ b c. Same{{name}} b.value c.value))
-      (λ b. {{low}}_other s b.value) (λ b p. inside_only s ({{low}}_data b.value) (λ {BOXED}. b.value) Is{{name}} Same{{name}} b.value p) {{a}}
-      (option_from (λ {BOXED}. {{low}}_fits b.value) (λ b. {{name}}Only b.value) {{a}} h {{fit}}))""",
-    word="option",
-    form="option",
-    patterns=(("None", "tt", "⊤"), ("(Some a)", "h a.value", "k (at a.value)")),
-    wider="option_as (Boxed P) (Boxed Q) (λ n b. f n b.value) m a h",
-    counted="option_in (λ n. Boxed ({name}In n)) m a h",
-    parts="IfSome {a} (λ b. P b.value)",
-    own=f"option_of (λ {BOXED}. {{low}}_data b.value) {{a}}",
-    is_some=f"(option_data (λ {BOXED}. {{low}}_data b.value) {{a}} h)",
-    absent="(Some None)",
-    made_absent="Some(None)",
-    same=f"AlikeOption (λ {BOXED} c. Same{{name}} b.value c.value) x y",
-    alike=f"option_alike (λ {BOXED}. {{low}}_data b.value) {{v}} {{w}} {{e}}",
-    told=f"""(alike_option_as (λ {BOXED} c. Same{{name}} b.value c.value) (λ {BOXED} c. {{low}}_data b.value ≡ {{low}}_data c.value)
-      (λ b c h. h{{bound}}) {{v}} {{w}} {{e}})""",
-)
-
-
-@dataclasses.dataclass(frozen=True)
-class Keys:
-    """The order of a map's keys: by the content of two keys, by the keys, that it is total, and that keys are equal that it doesn't tell apart."""
-
-    contents: str
-    order: str
-    total: str
-    exact: str
-
-    def map_of(self, key: Part) -> Again:
-        """The type in a map with keys of this order."""
-        it = Values(key)
-        data, reads, fits, same = it.data, it.reads, it.fits, it.same
-        content, entry = f"(λ (q : {key.term}). {key.key.format(a='q')})", f"(e : {key.term} × {{name}})"
-        own = f"mapping_of (in_turn {data} {{low}}_data {{a}}.entries)"
-        rows = f"""pairs_row s {data} {{low}}_data {fits} {{name}}Only (Only {reads} {same}) (Only Is{{name}} Same{{name}})
-      {it.only} (λ w p. p) {{a}}.entries (entries_from {fits} {{low}}_fits {{name}}Only {{a}}.entries h {{fit}}.0)"""
-        return Again(
-            f"BTreeMap<{key.kind}, {{kind}}>", f"BTreeMap ({key.term}) {{name}} Global",
-            f"ReadsEntries {self.order} {it.plain} {{reads}} {{a}}.entries {{k}}",
-            f"mapping_of (in_turn {data} (λ x. x) {{a}}.entries)", f"EntriesFit {self.order} {fits} {{fits}} {{a}}.entries",
-            row=f"""map_row s {data} {{low}}_data {fits} {{name}}Back {reads} Is{{name}} {it.row} (λ w p. p)
-      {self.total} {{a}}.entries {{fit}}.1 (entries_from {fits} {{low}}_fits {{name}}Back {{a}}.entries h {{fit}}.0)""",
-            only=f"map_only {reads} Is{{name}} {same} Same{{name}} s ({own}) (λ us. us.entries) {self.order} {{a}}.entries\n      ({rows})",
-            word=f"{key.kind.lower()}_map",
-            form="map",
-            patterns=(("a", "entries_hold first P h a.entries", f"entries_through at {self.order} {fits} k a.entries i"),),
-            wider=f"map_as {self.order} {reads} P Q f m a.entries h",
-            counted=f"map_in {self.order} {reads} {{name}}In {{low}}_up m a.entries h",
-            parts=f"All (λ {entry}. P e.1) {{a}}.entries",
-            known="(all_by _ a.entries h.0, h.1)",
-            own=own,
-            is_some=f"(mapping_data {data} {{low}}_data (λ q. refl) {{a}}.entries h)",
-            same=f"AlikeEntries {self.order} {same} Same{{name}} x.entries y.entries",
-            alike=f"""ap mapping_of (maps_alike {content} ({self.contents}) {self.total} ({self.exact}) (λ q. {key.of_key.format(a='q')})
-      {{low}}_data {{v}}.entries {{w}}.entries {{fit}}.1 {{e}})""",
-            keys=key,
-            mapped=f"mapping_of (turns_mapped {data} {{low}}_data {{a}}.entries i)",
-            told=f"(entries_as {self.order} {same} Same{{name}} (λ v w. {{low}}_data v ≡ {{low}}_data w) (λ v w h. h{{bound}}) {{v}}.entries {{w}}.entries {{e}})",
-        )
-
-
-UNSIGNED = Keys("nat_cmp", "nat_cmp", "nat_cmp_total", "exact_unsigned")
-ORDERS = {
-    "String": Keys("slice_cmp nat_cmp", "string_cmp", "string_cmp_total", "exact_bytes"),
-    **dict.fromkeys(("u8", "u16", "u32", "u64", "usize", "u128", "char"), UNSIGNED),
-    "bool": Keys("bool_cmp", "bool_cmp", "bool_cmp_total", "exact_truth"),
-}
-MAPS = tuple(order.map_of(LEAVES[kind]) for kind, order in ORDERS.items())
-
-AGAIN = (LIST, QUEUE, BOX, OPTION)
+TEXTS = Texts(__file__)
 
 
 class Level:
@@ -256,7 +76,7 @@ class Level:
         if leaf and any(it.declared and is_taken(it.kind) for it in leaf.within()):
             leaf = None
         known = leaf or next((again for again in (it.of(self) for it in [*AGAIN, *MAPS]) if again.kind == kind), None)
-        known = known or (shape_of(self, kind, Again) if self.kind in identifiers(kind) else None)
+        known = known or (shape_of(self, kind) if self.kind in identifiers(kind) else None)
         return known or next((part for part in self.given if part.kind == kind), None)
 
     def alone(self) -> Again:
@@ -503,55 +323,17 @@ def at_value(level: Level, shape: Shape, part: Optional[Part], values: list[str]
 
 def inductive(level: Level, kids: str, hold: str, through: str) -> list[tuple[str, str]]:
     """The same, by what its parts are and the lines of two lemmas on them."""
-    name, low = level.name, level.low
-    return [("", f"""
--- ---- induction
+    return [("", TEXTS.fill("induction", level, kids=kids, hold=hold)), ("F", TEXTS.fill("through", level, through=through)), *known_of(level)]
 
--- P holds of the parts
-abbrev pub {name}Parts : ({name} → Type 0) → {name}-F {name} → Type 0
-{kids}
-{low}_parts_hold : {{B : Type 0}} (P : {name} → Type 0) (first : B → {name}) → ((b : B) → P (first b)) → (y : {name}-F B) → {name}Parts P (map-{name} B {name} first y)
-{hold}
--- what holds of a value where it holds of its parts holds of each value
-pub {low}_induction : (P : {name} → Type 0) → ((v : {name}) → {name}Parts P (out-{name} v) → P v) → (v : {name}) → P v
-{low}_induction P step =
-    ind-{name} P (λ x y same. step (roll-{name} x) (subst ({name}Parts P) (same ∙ sym (out-roll-{name} x)) ({low}_parts_hold P (λ e. e.0) (λ e. e.1) y)))
-"""), ("F", f"""
-{low}_through : (X : Type 0) (at : X → {name}) (k : {name} → Type 0) (x : {name}-F X)
-    → {low}_layer_fits X at (λ p. k (at p)) x ≡ {low}_layer_fits {name} (λ y. y) k (map-{name} X {name} at x)
-{through}
-"""), *known_of(level)]
+
+def fits_of(level: Level, fits: str) -> tuple[str, str]:
+    """What is known of a value, by these lines on each of its forms."""
+    return "F", TEXTS.fill("fits_of", level, fits=fits)
 
 
 def known_of(level: Level) -> list[tuple[str, str]]:
     """What is known of a value is known of its parts, and what it is written as is one level of it."""
-    name, low = level.name, level.low
-    return [("F", f"""
-abbrev pub {name}Fits : {name}-F {name} → Type 0
-{name}Fits x = {low}_layer_fits {name} (λ y. y) {low}_fits x
-
-{low}_fits_is : (v : {name}) → {low}_fits v ≡ {name}Fits (out-{name} v)
-{low}_fits_is v = ap {low}_fits (sym (roll-out-{name} v)) ∙ rec-roll-{name} (Type 0) {low}_layer_fits {low}_through (out-{name} v)
-
-pub {low}_fits_out : (v : {name}) → {low}_fits v → {name}Fits (out-{name} v)
-{low}_fits_out v h = subst (λ T. T) ({low}_fits_is v) h
-
-pub {low}_fits_in : (v : {name}) (x : {name}-F {name}) → out-{name} v ≡ x → {name}Fits x → {low}_fits v
-{low}_fits_in v x e h = subst (λ T. T) (sym ({low}_fits_is v)) (subst {name}Fits (sym e) h)
-"""), ("D", f"""
-pub {low}_is : (v : {name}) → {low}_data v ≡ {low}_level (map-{name} {name} (Option Data) {low}_data (out-{name} v))
-{low}_is v = fold_out-{name} (Option Data) {low}_level v
-
-pub {low}_is_at : (v : {name}) (x : {name}-F {name}) → out-{name} v ≡ x → {low}_data v ≡ {low}_level (map-{name} {name} (Option Data) {low}_data x)
-{low}_is_at v x e = {low}_is v ∙ ap (λ z. {low}_level (map-{name} {name} (Option Data) {low}_data z)) e
-""")]
-
-
-# The lemmas that a leaf is read as it was written.
-LEAF_ROWS = "byte_row truth_row float32_row float64_row char_row string_row buffer_row".split()
-LEAF_ROWS += [f"{sign}_row_{bits}" for sign in ("signed", "unsigned") for bits in (8, 16, 32, 64)]
-# And that none is written as nil.
-LEAF_ROWS += dict.fromkeys(part.other.split()[0] for part in LEAVES.values())
+    return [("F", TEXTS.fill("fits_is", level)), ("D", TEXTS.fill("data_is", level))]
 
 
 def has_truth(of: Declared) -> bool:
@@ -560,61 +342,7 @@ def has_truth(of: Declared) -> bool:
 
 
 # Where the words of the libraries come from.
-LIBRARY = {
-    "std.proofs.Common": "◌≡◌ ◌∙◌ refl sym ap subst ℕ zero suc List [] ◌∷◌ map All Option None Some String Box",
-    "std.specs.Char": "IsScalar",
-    "std.specs.Cmp.Lexicographic": "slice_cmp",
-    "std.specs.Int": "w8 w16 w32 w64 w128",
-    "std.specs.List": "AllByRecursion",
-    "std.specs.Cmp": "bool_cmp_total",
-    "std.specs.Ordering": "nat_cmp bool_cmp",
-    "std.specs.String": "string_cmp string_cmp_total",
-    "std.proofs.lemmas.Cmp": "nat_cmp_total",
-    "std.proofs.lemmas.Map.Lookups": "exact_unsigned exact_bytes",
-    **{f"std.specs.declared.collections.{kind}": kind for kind in ("BTreeMap", "BTreeSet", "VecDeque")},
-    "std.specs.Prelude": "◌≢◌ ◌<◌ ◌^◌ ⊤ codes Vec Bool ℤ pos negsuc FitsSigned IsUtf8 IsSome IfSome string_bytes",
-    "std.specs.declared.alloc.Global": "Global",
-    "rmp_wire.specs.Msg": "Msg nil",
-    "rmp_wire.specs.Types": "buffer_bytes",
-    **{f"rmp_wire.specs.declared.types.{kind}": kind for kind in ("ByteBuf", "F32Bits", "F64Bits")},
-    "rmp_decode.specs.Buffers": "IsBuffer",
-    "rmp_decode.specs.Wide": "IsUnsigned128 IsSigned128",
-    "rmp_decode.specs.Fields": "OfFields Field Absent NoField",
-    "rmp_decode.specs.Law": "Readable",
-    "rmp_decode.specs.Maps": "ReadsEntries",
-    "rmp_decode.specs.Options": "IsOption",
-    "rmp_decode.specs.Read": "IsUnsigned IsSigned IsRaw IsChar",
-    "rmp_decode.specs.Rows": "ReadsEach AndThen NoMore",
-    "rmp_decode.specs.Seq": "OfRow",
-    "rmp_decode.specs.Variants": "OfVariant Case NoCase Bare Content",
-    "rmp_encode.specs.Data": "Data byte whole unsigned128 signed128 truth float32 float64 char text bytes unit_variant",
-    "rmp_encode.specs.Trees": "tree_of tuple_of slice_of sequence_of option_of mapping_of in_turn newtype_variant_of tuple_variant_of struct_variant_of structure_of",
-    "rmp_encode.specs.declared.settings.Settings": "Settings",
-    "rmp_round_trip.specs.LeafRounds": " ".join(LEAF_ROWS),
-    "rmp_round_trip.specs.MapRounds": "map_row pairs_row",
-    "rmp_round_trip.specs.OnlyFields": "AtPlace AnyContent content_only content_row content_fields variant_both fields_both field_only last_field",
-    "rmp_round_trip.specs.OnlyLeaves": "truth_only byte_only unsigned_only signed_only unsigned128_only signed128_only float32_only float64_only"
-    " char_only string_only buffer_only",
-    "rmp_round_trip.specs.OnlyMaps": "map_only",
-    "rmp_round_trip.specs.OnlyRows": "row_both inside_only item_only last_only list_only option_only lowers_then",
-    "rmp_round_trip.specs.RoundTrip": "Alike AlikeEntries AlikeOption LowersTo Only",
-    "rmp_round_trip.specs.Rounds": "slice_some each_some each_row slice_row slice_other sequence_some sequence_row sequence_other option_some option_row tuple_row tuple_other rows_none rows_cons",
-    "rmp_round_trip.specs.StructRounds": "tuple_all tuple_variant_all struct_variant_all structure_all structure_row structure_other fields_none fields_cons",
-    "rmp_round_trip.specs.VariantRounds": "newtype_variant_some bare_row newtype_variant_row tuple_variant_row struct_variant_row bare_other"
-    " newtype_variant_other tuple_variant_other struct_variant_other",
-    "rmp_round_trip.specs.WideRounds": "unsigned128_row signed128_row",
-    "rmp_recursive.specs.Parts": "Row Boxed InSteps row_as row_in option_as option_in variant_as variant_in of_row_as of_row_in then_as then_in"
-    " each_holds through all_by each_from option_from",
-    "rmp_recursive.specs.Fields": "fields_as fields_in field_as field_in",
-    "rmp_recursive.specs.Given": "alike_as alike_option_as entries_as",
-    "rmp_recursive.specs.Shapes": "each_through each_mapped each_both option_both all_known option_known each_as",
-    "rmp_recursive.specs.Leaves": "maps_alike_by option_alike_by",
-    "rmp_recursive.specs.MapRounds": "mapping_data maps_alike exact_truth",
-    "rmp_recursive.specs.Maps": "EntriesFit map_as map_in entries_hold entries_through entries_from turns_mapped",
-    "rmp_recursive.specs.Rounds": "each_data option_data lowers_as map_alike option_alike",
-}
-
-
+LIBRARY = TABLES["recursive terms"]
 # Words that proofs bring in beside those, or that have a meaning of their own.
 MORE = set("Values Gathers StructRun Result Slot Msgs IsOpen IsMapOpen IsStructOpen TakesPlace ReadsPairs Collects Unit Prim".split()) | QUOTED
 

@@ -2,7 +2,11 @@
 from __future__ import annotations
 
 from .holders import holder
-from .levels import Again, Level, map_order
+from .forms import Again
+from .levels import Level, map_order
+from shared.texts import Texts
+
+TEXTS = Texts(__file__)
 
 MAP, LOOP = "c.in_ok-pairs.pairs", "c.loop-entries.pairs"
 KEYED, VALUED = "c.next_key_with.new.self", "c.next_value_with.new.self"
@@ -32,12 +36,7 @@ class Map:
 
     def key(self) -> str:
         """That a key was read."""
-        return f"""let r = c.loop-entries.invariant in
-    let e = c.in_ok-key.ensures in
-    let is = c.in-Some.is in
-    let some = some_if {LOOP}.left c.in-Some.key _ is (e.none r.read.run.still.sound) in
-    let k = key_got g.R.Source {self.keys} {LOOP} {KEYED} (λ p q r h. h) c.in-Some.key (rw is at (e.part r.read.run.still.sound some)) e.still in
-"""
+        return TEXTS.fill("key", keys=self.keys)
 
     def value(self) -> str:
         """That its value was read, too."""
@@ -47,32 +46,19 @@ class Map:
 
     def over(self) -> str:
         """That no pair is left."""
-        return f"""let r = c.loop-entries.invariant in
-    let e = c.in_ok-key.ensures in
-    let z = none_left {LOOP}.left (λ l. no_key g.R.Source {self.keys} {LOOP} {KEYED} (λ p q r h. h)
-    (rw c.in_default.is at (e.part r.read.run.still.sound l))) in
-    let n = (e.none r.read.run.still.sound z).1 in
-"""
+        return TEXTS.fill("over", keys=self.keys)
 
     def refused(self, of: str, now: str, calls: list[str], lets: str, law: str) -> str:
         """An error that was returned early. What a call left is found before anything else is known: it's what the map borrowed."""
         facts = " ∙ ".join(f"sym {it}.same_reference" for it in [OPENED.removesuffix(".opened"), "c.loop-entries.invariant.read.run", *calls])
-        return f"""let p = err_from_is_err_and c.from_residual-{of}.result c.from_residual-{of}.ensures.1 in
-    rw (p.1, p.2) (record {{
-      law = lawful_at g.R.Source _ _ _ {now}.de.now _ (let same = {facts} in search rules) (
-{lets}    {law});
-    }})"""
+        return TEXTS.fill("refused", of=of, now=now, facts=facts, lets=lets, law=law)
 
     def half(self) -> str:
         return f"map_key g.R.Source {self.keys} {MAP} {LOOP} {KEYED} (flat r.read.trees) c.in-Some.key r.read.run r.read.at_key k e.same_reference"
 
     def refusals(self) -> dict[str, str]:
         """What is refused of a pair, or not kept."""
-        key = f"""    let r = c.loop-entries.invariant in
-    let e = c.in_err-key.ensures in
-    let some = some_if_err {LOOP}.left _ (e.none r.read.run.still.sound) in
-    let f = key_refused g.R.Source {self.keys} {LOOP} {KEYED} (λ p q r h. h) _ (e.part r.read.run.still.sound some) in
-"""
+        key = TEXTS.fill("key_refused", keys=self.keys)
         value = f"    {self.key()}    let f = value_refused g.R.Source {self.values} {KEYED} {VALUED} (λ p q r h. h) _ (c.in_err-value.ensures.part k.still.sound) in\n"
         entry = f"""    {self.value()}    let s = entries_step g.R.Source {self.keys} {self.values} {MAP} {LOOP} {KEYED} {VALUED} r.pairs c.in-Some.key
     c.in_ok-value.value r.read k e.same_reference v u.same_reference in
@@ -96,20 +82,13 @@ class Map:
     c.in_ok-value.value r k e.same_reference v u.same_reference c.in_ok-insert.ensures.entries c.insert.ensures.ordered
     c.in_ok-insert.ensures.updates.0"""
         return {
-            "returns-in_err-pairs": f"""let p = err_from_is_err_and c.from_residual.result c.from_residual.ensures.1 in
-    rw (p.1, p.2) (record {{
-      law = map_unopened g.R.Source {self.of} _ _ _ (rw c.in_err-pairs.was at c.deserialize_map.follows.holds-at-none);
-    }})""",
+            "returns-in_err-pairs": TEXTS.fill("map_unopened", of=self.of),
             "loop-entries-init": f"""let o = {OPENED} in
     gathers_start g.R.Source {self.order.total} {self.keys} {self.values} _ _ o.at_key o.opened c.new-entries.ensures.empty""",
             **self.refusals(),
             "loop-entries-preserved": f"{self.value()}    {more}",
             "end-requires": f"{self.over()}    λ _. ap (λ a. a.owes) n ∙ r.read.at_key",
-            "returns": f"""{self.over()}    let d = (c.in_ok-end.ensures.ok (subst IsMapOpen (sym n) r.read.run.still)).1 in
-    record {{
-      law = map_done {self.start} {LOOP} {OPENED} _ r.read.trees r.read.run _ (r.pairs, r.read.reads, r.gathered) z r.read.at_key
-          (via c.end.new.self.0 (search rules) (d ∙ ap (λ a. record a.de.now {{ failed = false }}) n));
-    }}""",
+            "returns": TEXTS.fill("map_done", over=self.over(), start=self.start),
             "returns-in_err-end": f"""{self.over()}    let d = (c.in_err-end.ensures.err (subst IsMapOpen (sym n) r.read.run.still)).0 in
     absurd (omega (arith, z, d, ap (λ a. a.left) n))""",
         }

@@ -10,6 +10,9 @@ from .fields import pairs_of
 from .leaves import Part, Values
 from .levels import LIBRARY, brought_in, each, has_truth, places_of, product
 from .rounds import both_fields, field_rows, only_parts, places_in, row_proofs, some_facts
+from shared.texts import Texts
+
+TEXTS = Texts(__file__)
 
 
 def leaf_file(part: Part, crate: str, has_rounds: bool) -> str:
@@ -24,19 +27,7 @@ def leaf_file(part: Part, crate: str, has_rounds: bool) -> str:
 def definitions(part: Part, keys: list[str], data: str, fits: str, reads: str) -> str:
     """What it is written as and read from."""
     name, low = part.kind, part.word
-    return f"""
-abbrev pub {low}_names : List (List ℕ)
-{low}_names = {codes(keys)}
-
-abbrev pub {low}_data : {name} → Option Data
-{low}_data v = {data}
-
-abbrev pub {low}_fits : {name} → Type 0
-{low}_fits v = {fits}
-
-abbrev pub Is{name} : Msg → {name} → Type 0
-Is{name} m v = {reads} m
-"""
+    return TEXTS.fill("definitions", low=low, codes=codes(keys), name=name, data=data, fits=fits, reads=reads)
 
 
 # ---- an enum
@@ -58,21 +49,8 @@ def enum_laws(part: Part) -> str:
         some += f"{low}_some {value} = refl\n"
         others += f"  {low}_other {value} = bare_other s {key}\n"
         rows += f"  {low}_row {value} fits = bare_row s {low}_names {key} {at} refl _ (refl, tt)\n"
-        onlys += f"""  {low}_only {value} =
-      lowers_then s (Some (unit_variant {key})) (OfVariant {low}_names (AtPlace {at} AnyContent)) (λ m. (w : {name}) → Is{name} m w → {value} ≡ w)
-      (bare_row s {low}_names {key} {at} refl (AtPlace {at} AnyContent) (refl, tt))
-      (λ m q w r. variant_both {low}_names {at} AnyContent _ _ m q r (λ c a b. sym b.0))
-"""
-    return f"""
-pub {low}_some : (v : {name}) → IsSome ({low}_data v)
-{some}
-module _ (s : Settings) where
-  pub {low}_other : (v : {name}) → tree_of s ({low}_data v) ≢ Some nil
-{others}
-  pub {low}_row : (v : {name}) → {low}_fits v → LowersTo s ({low}_data v) (λ m. Is{name} m v)
-{rows}
-  pub {low}_only : (v : {name}) → LowersTo s ({low}_data v) (λ m. (w : {name}) → Is{name} m w → v ≡ w)
-{onlys}"""
+        onlys += TEXTS.fill("variant_only", low=low, value=value, key=key, at=at, name=name)
+    return TEXTS.fill("enum_laws", low=low, name=name, some=some, others=others, rows=rows, onlys=onlys)
 
 
 # ---- a struct
@@ -106,14 +84,7 @@ def alike_law(part: Part) -> str:
     name, low, fields = part.kind, part.word, fields_of(part)
     same = product([of.same_as(place, f"w.{field.name}") for field, of, place in fields], "⊤")
     data = [f"({of.alike_by(place, f'w.{field.name}', e)}) t" for (field, of, place), e in zip(fields, places_of("e", len(fields)))]
-    return f"""
--- values of the same content are written alike
-abbrev pub Same{name} : {name} → {name} → Type 0
-Same{name} v w = {same}
-
-pub {low}_alike : (v w : {name}) → Same{name} v w → {low}_data v ≡ {low}_data w
-{low}_alike v w e = λ t. structure_of {listed([field for field, _, _ in fields], data)}
-"""
+    return TEXTS.fill("alike_law", name=name, same=same, low=low, listed=listed([field for field, _, _ in fields], data))
 
 
 def struct_laws(part: Part) -> str:
@@ -128,24 +99,10 @@ def struct_laws(part: Part) -> str:
     told, proofs = only_parts(facts, parts, values)
     onlys = field_rows(own, told, ["⊥"] * len(own), proofs)
     both = both_fields(facts, values, [f"w.{field.name}" for field in own])
-    return f"""
-pub {low}_some : (v : {name}) → IsSome ({low}_data v)
-{low}_some v = structure_all {pairs} {some}
-{alike_law(part)}
-module _ (s : Settings) where
-  pub {low}_other : (v : {name}) → tree_of s ({low}_data v) ≢ Some nil
-  {low}_other v = structure_other s {pairs}
-
-  pub {low}_row : (v : {name}) → {low}_fits v → LowersTo s ({low}_data v) (λ m. Is{name} m v)
-  {low}_row v fit = structure_row s {low}_names {pairs} _ refl
-      ({rows})
-
-  pub {low}_only : (v : {name}) → {low}_fits v → LowersTo s ({low}_data v) (λ m. (w : {name}) → Is{name} m w → Same{name} v w)
-  {low}_only v fit = lowers_then s ({low}_data v) _ (λ m. (w : {name}) → Is{name} m w → Same{name} v w)
-      (structure_row s {low}_names {pairs} ({chained([f'Field {it} ⊥' for it in told], 'NoField')}) refl
-      ({onlys}))
-      (λ m q w r. fields_both {low}_names _ _ _ m q r (λ fs i j. let x = ({both}) fs i j in {each(places_in('x', len(own)))}))
-"""
+    return TEXTS.fill(
+        "struct_laws", low=low, name=name, pairs=pairs, some=some, alike_law=alike_law(part), rows=rows,
+        chained=chained([f'Field {it} ⊥' for it in told], 'NoField'), onlys=onlys, both=both, each=each(places_in('x', len(own))),
+    )
 
 
 def tables(part: Part, crate: str) -> dict[str, str]:

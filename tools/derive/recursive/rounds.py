@@ -10,8 +10,12 @@ from .enums import content_data, row_reads, sections
 from .fields import pairs_of
 from .given import SETTINGS, bound_kinds, words_of
 from .leaves import Part, put_in
-from .levels import Again, Level, at_value, cases, data_from, each, file_of, held_in, inside, is_apart, named_in, places_of, reading, same_of
+from .forms import Again
+from .levels import Level, at_value, cases, data_from, each, file_of, held_in, inside, is_apart, named_in, places_of, reading, same_of
 from shared.terms import bracketed
+from shared.texts import Texts
+
+TEXTS = Texts(__file__)
 
 
 def rounds_file(level: Level) -> str:
@@ -120,72 +124,25 @@ def back_row(level: Level, at: int, shape: Shape, part: Optional[Part], values: 
 
 def back_of(level: Level) -> list[tuple[str, str]]:
     """No value is refused; what it lowers to is read as it; and it is never nil."""
-    name, low = level.name, level.low
     laws = zip(*(back_variant(level, at, shape, part) for at, (shape, part) in enumerate(level.variants)))
     some, rounds, other = ("".join(lines) for lines in laws)
-    mapped = f"map-{name} {name} (Option Data) {low}_data"
-    return [("DS", f"""
--- ---- no value is refused
-
-{low}_level_some : (x : {name}-F {name}) → {name}Parts (λ t. IsSome ({low}_data t)) x → IsSome ({low}_level ({mapped} x))
-{some}
-pub {low}_some : (v : {name}) → IsSome ({low}_data v)
-{low}_some = {low}_induction (λ v. IsSome ({low}_data v)) (λ v h. subst IsSome (sym ({low}_is v)) ({low}_level_some (out-{name} v) h))
-"""), ("sD", f"""
-{SETTINGS}  -- ---- it is never nil
-
-  {low}_level_other : (x : {name}-F (Option Data)) → tree_of s ({low}_level x) ≢ Some nil
-{other}
-  pub {low}_other : (v : {name}) → tree_of s ({low}_data v) ≢ Some nil
-  {low}_other v e = {low}_level_other ({mapped} (out-{name} v)) (ap (tree_of s) (sym ({low}_is v)) ∙ e)
-"""), ("sRDFB", f"""
-{SETTINGS * bool(level.given)}  -- ---- what a value lowers to is read as that value
-
-  abbrev {name}Back : {name} → Type 0
-  {name}Back v = LowersTo s ({low}_data v) (λ m. Is{name} m v)
-
-  abbrev {name}Round : {name} → Type 0
-  {name}Round v = {low}_fits v → {name}Back v
-
-  {low}_level_round : (v : {name}) (x : {name}-F {name}) → out-{name} v ≡ x → {name}Parts {name}Round x → {name}Fits x
-      → LowersTo s ({low}_level ({mapped} x)) (λ m. OfVariant {low}_names ({name}Case Is{name} v) m)
-{rounds}
-  pub {low}_round : (v : {name}) → {name}Round v
-  {low}_round = {low}_induction {name}Round
-      (λ v h fits. subst (λ d. LowersTo s d (λ m. Is{name} m v)) (sym ({low}_is v))
-      (lowers_as s ({low}_level ({mapped} (out-{name} v))) (λ m. OfVariant {low}_names ({name}Case Is{name} v) m) (λ m. Is{name} m v)
-      ({low}_made v) ({low}_level_round v (out-{name} v) refl h ({low}_fits_out v fits))))
-""")]
+    return [
+        ("DS", TEXTS.fill("some", level, some=some)),
+        ("sD", TEXTS.fill("never_nil", level, other=other)),
+        ("sRDFB", TEXTS.fill("round", level, settings=SETTINGS * bool(level.given), rounds=rounds)),
+    ]
 
 
 def only_of(level: Level) -> list[tuple[str, str]]:
     """Nothing else is read of what a value lowers to."""
-    name, low = level.name, level.low
-    mapped = f"map-{name} {name} (Option Data) {low}_data"
     lines = "".join(only_variant(level, at, shape, part, values) for at, (shape, part) in enumerate(level.variants) for values in cases(part))
-    return [("Q", f"""
--- ---- values of the same content are written alike
+    only = TEXTS.fill("only", level, kinds=bound_kinds(level), lines=lines, bound=level.bound)
+    return [same_law(level), ("D", TEXTS.fill("by", level)), ("sRDFQO", only)]
 
-abbrev pub Same{name} : {name} → {name} → Type 0
-Same{name} v w = {bound_kinds(level)}{low}_data v ≡ {low}_data w
-"""), ("D", f"""
-{low}_by : (w : {name}) (y : {name}-F {name}) → out-{name} w ≡ y → {low}_level ({mapped} y) ≡ {low}_data w
-{low}_by w y e = sym ({low}_is_at w y e)
-"""), ("sRDFQO", f"""
-{SETTINGS}  abbrev {name}Only : {name} → Type 0
-  {name}Only v = LowersTo s ({low}_data v) (λ m. Only Is{name} Same{name} m v)
 
-  abbrev {name}LevelOnly : {name}-F {name} → Msg → Type 0
-  {name}LevelOnly x m = (w : {name}) → OfVariant {low}_names ({name}Case Is{name} w) m → {bound_kinds(level)}{low}_level ({mapped} x) ≡ {low}_data w
-
-  {low}_level_only : (x : {name}-F {name}) → {name}Parts (λ v. {low}_fits v → {name}Only v) x → {name}Fits x → LowersTo s ({low}_level ({mapped} x)) ({name}LevelOnly x)
-{lines}
-  pub {low}_only : (v : {name}) → {low}_fits v → {name}Only v
-  {low}_only = {low}_induction (λ v. {low}_fits v → {name}Only v)
-      (λ v h fits. subst (λ d. LowersTo s d (λ m. Only Is{name} Same{name} m v)) (sym ({low}_is v))
-      (lowers_then s ({low}_level ({mapped} (out-{name} v))) ({name}LevelOnly (out-{name} v)) (λ m. Only Is{name} Same{name} m v)
-      ({low}_level_only (out-{name} v) h ({low}_fits_out v fits)) (λ m q w r{level.bound}. {low}_is v ∙ q w ({low}_out m w r){level.bound})))
-""")]
+def same_law(level: Level) -> tuple[str, str]:
+    """What values of the same content are: they are written alike."""
+    return "Q", TEXTS.fill("same", level, bound=bound_kinds(level))
 
 
 def only_variant(level: Level, at: int, shape: Shape, part: Optional[Part], values: list[str]) -> str:
@@ -194,19 +151,15 @@ def only_variant(level: Level, at: int, shape: Shape, part: Optional[Part], valu
     made, of = level.made(shape, values), f"(codes \"{shape.key}\")"
     if part is None:
         holds = f"(AtPlace {at} AnyContent)"
-        return f"""  {low}_level_only {made} h fit =
-      lowers_then s (Some (unit_variant {of})) (OfVariant {low}_names {holds}) ({name}LevelOnly {made})
-      (bare_row s {low}_names {of} {at} refl {holds} (refl, tt))
-      (λ m q w r. variant_both {low}_names {at} AnyContent ({name}Case Is{name} w) _ m q r (λ c i j{level.bound}. {low}_by w {made} j.0))
-"""
+        return TEXTS.fill("bare_only", level, made=made, of=of, holds=holds, at=at, bound=level.bound)
     others, is_ = inside(part, "j.0"), at_value(level, shape, part, values)
     data = content_data(shape, [data_from(held, value) for held, value in zip(held_in(part), values)])
     row, same = (only_fields if part.named else only_row if part.held else only_value)(level, at, shape, part, values)
     back = f" ∙ sym ({low}_at_{shape.name} {' '.join(others)})" * is_apart(part)
-    term = f"""lowers_then s ({data}) _ ({name}LevelOnly {made})
-      ({row})
-      (λ m q w r. variant_both {low}_names {at} _ ({name}Case Is{name} w) _ m q r
-      (λ c i j{level.bound}. {f'{is_} ∙ ' * bool(is_)}{same}{back} ∙ {low}_by w {level.made(shape, others)} j.1))"""
+    term = TEXTS.fill(
+        "variant_only", level, data=data, made=made, row=row, at=at, bound=level.bound, is_=f'{is_} ∙ ' * bool(is_), same=same, back=back,
+        other=level.made(shape, others),
+    )
     holds = f"(λ d. LowersTo s d ({name}LevelOnly {made}))"
     return f"  {low}_level_only {made} h fit =\n      {carried(holds, is_, term)}\n"
 

@@ -6,8 +6,12 @@ from collections.abc import Iterable
 from .holders import holder
 from .enums import row_reads
 from .leaves import Part
-from .levels import Again, Level, after_held, inside
+from .forms import Again
+from .levels import Level, after_held, inside
 from shared.terms import numbered
+from shared.texts import Texts
+
+TEXTS = Texts(__file__)
 
 # What an element's call is named in goals.
 CALL = "next_element_with"
@@ -58,12 +62,7 @@ class Row:
         for at in range(count):
             old, new, here = before(at), before(at + 1), f"c.{arm(at, 'Ok-Some')}"
             value = f"{here}.value"
-            text += f"""    let e{at} = {here}.ensures in
-    let some{at} = some_if {old}.left {value} _ {here}.field-0-is (e{at}.none r{at}.still.sound) in
-    let k{at} = item_taken g.R.Source {self.typed[at]} {old} {new} r{at}.still e{at}.list (λ p q r h. h) {value}
-    (rw {here}.field-0-is at (e{at}.part r{at}.still.sound some{at})) e{at}.still in
-    let r{at + 1} = run_step g.R.Source _ c.in-Ok.seq {old} {new} {trees(at)} {value} r{at} k{at} e{at}.same_reference in
-"""
+            text += TEXTS.fill("run", at=at, here=here, old=old, value=value, typed=self.typed[at], new=new, next=at + 1, trees=trees(at))
         return text
 
     def answer(self, goal: str, count: int, last: str, term: str, of: str = "", held: str = "") -> str:
@@ -71,13 +70,7 @@ class Row:
         answered with this arm."""
         name, arms = f"{self.fn}-{goal}", ["in-Ok", *[arm(at, "Ok-Some") for at in range(count)], *([arm(count, of)] if of else [])]
         same = " ∙ ".join(f"c.{it}.ensures.same_reference" for it in reversed(arms))
-        return f"""
-pub {name} : goal.{name}
-{name} g t c = {held}(record {{
-  law = lawful_at g.R.Source _ _ _ {last} _ (let same = {same} in search rules) (
-{self.runs(count)}    {term});
-}})
-"""
+        return TEXTS.fill("answer", name=name, held=held, last=last, same=same, runs=self.runs(count), term=term)
 
     def known(self, at: int) -> str:
         """The part of what holds of all values that is said of one."""
@@ -90,30 +83,23 @@ pub {name} : goal.{name}
     def requires(self, at: int) -> str:
         """That a part has less room than the list."""
         name = f"{self.fn}-{numbered(f'{CALL}-requires', at)}"
-        return f"""
-pub {name} : goal.{name}
-{name} g t c = λ s some d l p q.
-{self.runs(at)}    let h = part_room g.R.Source c.args.de.now c.in-Ok.seq {before(at)} _ o r{at} d l in
-    let e = ap (λ (z : _). max 1 z.room) q in
-    (omega (arith, h, e, c.decreases), ((λ a m. m), ((λ a m. m), (λ a m. m))))
-"""
+        return TEXTS.fill("requires", name=name, runs=self.runs(at), before=before(at), at=at)
 
     def refused(self, at: int) -> str:
         """An element was refused."""
         old, new = before(at), before(at + 1)
-        return self.answer(f"returns-{arm(at, 'Err')}", at, f"{new}.de.now", f"""let e = c.{arm(at, 'Err')}.ensures in
-    let some = some_if_err {old}.left _ (e.none r{at}.still.sound) in
-    let f = item_refused g.R.Source {self.typed[at]} {old} {new} r{at}.still e.list (λ p q r h. h) _ some (e.part r{at}.still.sound some) in
-    seq_take g.R.Source {self.reads} _ c.in-Ok.seq {old} {trees(at)} o r{at} _ {self.typed[at]} {new} _ f (e.marked r{at}.still.marked) refl
-    {self.read_of(at)}""", "Err")
+        return self.answer(f"returns-{arm(at, 'Err')}", at, f"{new}.de.now", TEXTS.fill(
+            "refused", arm=arm(at, 'Err'), old=old, at=at, typed=self.typed[at], new=new, reads=self.reads, trees=trees(at),
+            read_of=self.read_of(at),
+        ), "Err")
 
     def missing(self, at: int) -> str:
         """The list has no more elements."""
         old, new, here = before(at), before(at + 1), f"c.{arm(at, 'Ok-None')}"
-        return self.answer(f"returns-{arm(at, 'Ok-None')}", at, f"{new}.de.now", f"""let e = {here}.ensures in
-    let z = none_left {old}.left (λ l. never_none g.R.Source {old} {new} (rw {here}.field-0-is at (e.part r{at}.still.sound l))) in
-    row_short g.R.Source {self.reads} _ c.in-Ok.seq {old} {trees(at)} o r{at} _ {self.typed[at]} _ z (ap (λ s. s.de.now) (e.none r{at}.still.sound z).1)
-    {self.read_of(at)} (λ v h. h{'.1' * at})""", "Ok-None")
+        return self.answer(f"returns-{arm(at, 'Ok-None')}", at, f"{new}.de.now", TEXTS.fill(
+            "missing", here=here, old=old, new=new, at=at, reads=self.reads, trees=trees(at), typed=self.typed[at], read_of=self.read_of(at),
+            ones='.1' * at,
+        ), "Ok-None")
 
     def ends(self) -> str:
         """The list is over, or has more elements."""
@@ -130,12 +116,7 @@ pub {name} : goal.{name}
 
     def text(self) -> str:
         unopened = f"{self.fn}-returns-in-Err"
-        lines = f"""
-pub {unopened} : goal.{unopened}
-{unopened} g t c = record {{
-  law = seq_unopened g.R.Source {self.reads} _ _ _ (rw c.in-Err.is at c.deserialize_seq.follows.holds-at-none);
-}}
-"""
+        lines = TEXTS.fill("unopened", unopened=unopened, reads=self.reads)
         for at, held in enumerate(self.part.held):
             lines += self.requires(at) * (not held.is_leaf) + self.refused(at) + self.missing(at)
         return lines + self.ends()

@@ -8,13 +8,15 @@ from __future__ import annotations
 import re
 from typing import TYPE_CHECKING, Optional
 
-from ..table.kinds import parted, split
+from ..table.kinds import parted
 from ..flat.terms import chained
+from .forms import Again
 from .leaves import Part, put_in, terms_of
+from shared.brackets import split
 from shared.terms import list_of, tuple_of
 
 if TYPE_CHECKING:
-    from .levels import Again, Level
+    from .levels import Level
 
 # What is in place of the type in what is known of a value: what is known of it by the values of a level, X, and of those of the type.
 HERE = "◇"
@@ -23,18 +25,18 @@ HERE = "◇"
 LISTS = {"Vec": "slice", "VecDeque": "sequence"}
 
 
-def shape_of(level: Level, kind: str, made: type[Again]) -> Optional[Again]:
+def shape_of(level: Level, kind: str) -> Optional[Again]:
     """What is known of a type that has this one inside, if it is such a shape."""
     name, inner = parted(kind)
     if kind[0] == "(":
         held = [inside(level, part) for part in split(kind[1:-1])]
-        return tuple_of_parts(level, held, made) if 2 <= len(held) <= 8 and all(map(is_plain, held)) else None
+        return tuple_of_parts(level, held) if 2 <= len(held) <= 8 and all(map(is_plain, held)) else None
     of = inside(level, inner[0]) if len(inner) == 1 else None
     if not of or of.is_leaf:
         return None
     if name in LISTS and (of.form == "row" or of.form == "option" and not of.inner and level.of.shape):
-        return list_of_parts(level, of, name, made)
-    return None if not is_plain(of) else option_of_part(level, of, made) if name == "Option" and of.form in ("list", "deque", "row") else None
+        return list_of_parts(level, of, name)
+    return None if not is_plain(of) else option_of_part(level, of) if name == "Option" and of.form in ("list", "deque", "row") else None
 
 
 def inside(level: Level, kind: str) -> Optional[Part]:
@@ -167,14 +169,14 @@ def each(terms: list[str]) -> str:
     return terms[0] if len(terms) == 1 else f"({', '.join(terms)})"
 
 
-def tuple_of_parts(level: Level, held: list[Part], made: type[Again]) -> Again:
+def tuple_of_parts(level: Level, held: list[Part]) -> Again:
     """A tuple of leaves and of the type again."""
     of, again = Row(level, held), [(part, value) for part, value in zip(held, (value for _, value in Row(level, held).values)) if not part.is_leaf]
     same = " × ".join(f"({part.same_as(f'x.{at}', f'y.{at}')})" for at, part in enumerate(held))
     wider = chained([f"then_as _ _ _ _ {step(part, 'wider', value)}" for part, value in of.values], "(λ ms h. h)").replace("{a}", "a")
     known = [f"h.{at}" if part.is_leaf else put_in(part.known, {"h": f"h.{at}", "a": f"a.{at}"}) for at, part in enumerate(held)]
     some = "".join(f"({of.known(part, part.is_some, at)}, " for at, part in enumerate(held))
-    return made(
+    return Again(
         tuple_of([part.kind for part in held]), terms_of(held), f"{of.row} {{k}}", f"tuple_of ({list_of([part.data.format(a=value) for part, value in of.values])})",
         " × ".join(f"({part.fits.replace('{a}', value)})" for part, value in of.values),
         row=f"tuple_row s _ _ ({of.rows([read.replace('{reads}', f'Is{level.name}') for read in of.reads], 'row')})", only=of.only(same),
@@ -212,7 +214,7 @@ def counted_of(of: Inside) -> tuple[str, str, str]:
     return f"(λ i. {of.reads(f'({name}In i)')})", f"(λ i n q g. {up})", f"(λ n q g. {of.said(of.part.counted)})"
 
 
-def list_of_parts(level: Level, part: Again, kind: str, made: type[Again]) -> Again:
+def list_of_parts(level: Level, part: Again, kind: str) -> Again:
     """A list of tuples."""
     of, name, word = Inside(level, part), level.name, LISTS[kind]
     reads, items = of.reads(f"Is{name}"), f"(λ (us : {kind} ({part.term}) Global). us.items)"
@@ -224,7 +226,7 @@ def list_of_parts(level: Level, part: Again, kind: str, made: type[Again]) -> Ag
     known = [of.fits("(λ (p : X). k (at p))", "X"), of.fits("k")]
     data = f"(map {of.own} {{a}}.items)"
     round_of, only_of = (f"(λ (v : {name}). {level.low}_fits v → {name}{it} v)" for it in ("Back", "Only"))
-    return made(
+    return Again(
         f"{kind}<{part.kind}>", f"{kind} ({part.term}) Global", f"Row {of.plain('{reads}')} {{k}} {{a}}.items",
         f"{word}_of (map {of.data()} {{a}}.items)", f"AllByRecursion {of.fits('{fits}', HERE)} {{a}}.items",
         row=f"""{word}_row s {data} (λ ms. ReadsEach {reads} ms {{a}}.items) (each_row s {of.own} {back} {reads} (λ q u. u) {{a}}.items
@@ -247,7 +249,7 @@ def list_of_parts(level: Level, part: Again, kind: str, made: type[Again]) -> Ag
     )
 
 
-def option_of_part(level: Level, part: Again, made: type[Again]) -> Again:
+def option_of_part(level: Level, part: Again) -> Again:
     """An option of a list or of a tuple, which is never nil."""
     of, name = Inside(level, part), level.name
     reads = of.reads(f"Is{name}")
@@ -256,7 +258,7 @@ def option_of_part(level: Level, part: Again, made: type[Again]) -> Again:
     steps, up, counted = counted_of(of)
     other = f"(λ q. {part.other.format(a='q')})"
     round_of, only_of = (f"(λ (v : {name}). {level.low}_fits v → {name}{it} v)" for it in ("Back", "Only"))
-    return made(
+    return Again(
         f"Option<{part.kind}>", f"Option ({part.term})", f"IsOption {of.plain('{reads}')} {{k}} {{a}}", f"option_of {of.data()} {{a}}",
         f"IfSome {{a}} {of.fits('{fits}', HERE)}",
         row=f"option_row s {of.own} {back} {reads} {other} (λ q u. u) {{a}} (option_both {parts(round_of)} {fits} {back} {of.back(part.row)} {{a}} h {{fit}})",

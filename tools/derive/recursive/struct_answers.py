@@ -6,9 +6,13 @@ from ..flat.terms import nested, place_of
 from .given import answered
 from .holder_answers import answer, goals_of, left_under, loop_measures
 from .leaves import put_in
-from .levels import Again, Content, Level, after_held, brought_in, each, tables
+from .forms import Again
+from .levels import Content, Level, after_held, brought_in, each, tables
 from .struct_proofs import slots_of
 from shared.terms import numbered
+from shared.texts import Texts
+
+TEXTS = Texts(__file__)
 
 # What an answer begins with where the next field's place is known, or none is left.
 RUN = "let r = c.loop-fields.invariant in\n    "
@@ -73,32 +77,25 @@ class Place:
         level, at = self.level, self.at
         value = f"c.in-Ok-{self.call}.value"
         after = slots_of([f"(Some {value})" if other == at else f"c.loop-fields.slot{other}" for other in range(len(level.fields))])
-        return f"""{self.found()}let q = c.in-Ok-{self.call}.ensures in
-    let took = field_taken g.R.Source _ _ c.next_field_by.new.self {self.new} p.still {level.name}Slot{at} q.same
-    {self.law} {value} (q.part p.still) q.owes q.still in
-    {after_held(self.part, value)}({start(level, 'struct_step')} c.in-Ok.fields c.loop-fields.fields c.next_field_by.new.self {self.new} {slots(level)}
-    {after} {at} {level.name}Slot{at} {value} r p k.same k.same_reference took q.same q.same_reference
-    ({level.low}_step{at} {slots(level)} {value}))"""
+        return TEXTS.fill(
+            "preserved", found=self.found(), call=self.call, new=self.new, name=level.name, at=at, law=self.law, value=value,
+            after_held=after_held(self.part, value), start=start(level, 'struct_step'), slots=slots(level), after=after, low=level.low,
+        )
 
     def fails(self) -> str:
         level, at = self.level, self.at
         fact = (f"{read_law(level, 'struct_value')} c.loop-fields.fields r c.next_field_by.new.self\n          {self.new} {at} {level.name}Slot{at} _ p k.same k.same_reference"
                 f" failed\n          {left_as(level, ['q.same_reference', 'k.same_reference'])}\n          (λ fs v m h e. ({level.place(at, level.own())}, {level.low}_tree{at} fs v m h e))")
-        return f"""{self.found()}let q = c.in-Err-{self.call}.ensures in
-    let failed = field_refused g.R.Source _ _ c.next_field_by.new.self {self.new} p.still {level.name}Slot{at} q.same
-    {self.law} _ (q.part p.still) p.owes (q.marked p.still.marked) in
-    {refused(level, fact)}"""
+        return TEXTS.fill(
+            "fails", found=self.found(), call=self.call, new=self.new, name=level.name, at=at, law=self.law, refused=refused(level, fact),
+        )
 
     def requires(self) -> str:
         """The value nests below the struct."""
         e, facts = "e : steps_at p.now ≡ steps_at d = ap steps_at q", "h, e, c.decreases"
         if isinstance(self.level, Content):
             e, facts = "e = ap (λ (z : _). max 1 z.room) q", "h, at_most c.args.de.now.kept, e, c.decreases"
-        return f"""λ s d l p q.
-    let same = same_then c.in-Ok.fields c.loop-fields.fields c.next_field_by.new.self c.loop-fields.invariant.same {self.arm}.ensures.same in
-    let h = field_steps g.R.Source {self.level.low}_names c.args.de.now c.in-Ok.fields c.next_field_by.new.self c.in-Ok.ensures.opened same d l in
-    let {e} in
-    (omega (arith, {facts}), ((λ a m. m), ((λ a m. m), (λ a m. m))))"""
+        return TEXTS.fill("requires", arm=self.arm, low=self.level.low, e=e, facts=facts)
 
     def answers(self) -> str:
         fn = self.level.reader
@@ -131,10 +128,10 @@ def missing_answer(level: Level, at: int) -> str:
     left = left_as(level, [f"c.in-Err-{call}.ensures.same_reference", "ap (λ a. a.de.ghost_name) same", "k.same_reference"])
     fact = (f"{read_law(level, 'struct_missing')} c.next_field_by.new.self d _\n          (via c.{call}.new.self.de.now {left}\n          (ap (λ a. a.de.now) e.3 ∙ ap (λ a. a.de.now) same))"
             f"\n          ({level.low}_gap{at} {all_slots} e.0) (λ m fs v h q. {lacks})")
-    return answer(f"{level.reader}-returns-in-Err-{call}", f"""
-    {RUN}{MET.format(low=level.low, name=level.name, slots=all_slots)}let same : {before} ≡ c.next_field_by.new.self = {same_until(at)} in
-    let e = c.in-Err-{call}.ensures.err (ap (λ a. a.sound) same ∙ d.run.still.sound) in
-    {refused(level, fact)}""")
+    return answer(f"{level.reader}-returns-in-Err-{call}", TEXTS.fill(
+        "missing_answer", RUN=RUN, met=MET.format(low=level.low, name=level.name, slots=all_slots), before=before, same_until=same_until(at),
+        call=call, refused=refused(level, fact),
+    ))
 
 
 def whole_of(level: Level) -> str:
@@ -187,17 +184,7 @@ def leaf_answers(of: Content, place: str) -> str:
     count = len(of.fields)
     parts = nested([of.place(at, "r.0") for at in range(count)], "tt")
     signs = "".join(after_held(part, f"c.in-Ok.parts{place_of(at, count)}") for at, (_, part) in enumerate(of.fields))
-    text = f"""
-pub returns-in-Ok : goal.returns-in-Ok
-returns-in-Ok g c = {signs}(record {{
-  law = lawful_ok _ _ _ _ _ _ _ (λ m r. r) c.in-Ok.ensures.law;
-}})
-
-pub returns-in-Err : goal.returns-in-Err
-returns-in-Err g c = record {{
-  law = lawful_err _ _ _ _ _ _ (λ m r. ({parts}, r.1)) c.in-Err.ensures.law;
-}}
-"""
+    text = TEXTS.fill("leaf_answers", signs=signs, parts=parts)
     table = {"std.proofs.Common": "rules", "std.proofs.lemmas.Int": "to_z-of_z", "std.specs.Int": "w8 w16 w32 w64 w128", "rmp_decode.proofs.Laws": "lawful_ok lawful_err"}
     return brought_in(text, table) + goals_of(of, place) + text
 
@@ -219,7 +206,7 @@ def known(level: Level, at: int) -> str:
 
 def stops(level: Level) -> tuple[str, str]:
     """The answers for what is refused as it is written, and what is known of what isn't."""
-    low, text = level.low, ""
+    text = ''
     run, names = "c.in_ok-fields.ensures.opened _ refl", ["c.in_ok-fields.ensures.same_reference"]
     fails = [("fields", "unopened g.W.Sink _ _ _ _ c.args.se.now _ _ _ _ c.in_err-fields.was c.serialize_struct.follows.holds-at-none refl", "")]
     for at in range(len(level.fields)):
@@ -229,12 +216,7 @@ def stops(level: Level) -> tuple[str, str]:
         run, names = f"c.in_ok-{call}.ensures.writes c.args.se.now _ _ ({run})", [f"c.in_ok-{call}.ensures.same_reference", *names]
     for call, fact, at in fails:
         goal = f"returns-in_err-{call}-clause-writes"
-        text += f"""
-pub {goal} : goal.{goal}
-{goal} g t c =
-    let p = err_from_is_err_and c.from_residual{at}.result c.from_residual{at}.ensures.1 in
-    rw (p.1, p.2, {low}_is_own c.args.self.now) ({TAKES} ({fact}))
-"""
+        text += TEXTS.fill("stops", level, goal=goal, at=at, TAKES=TAKES, fact=fact)
     return text, f"rests_at g.W.Sink {left_under(names)} (c.end.ensures.writes c.args.se.now _ ({run}))"
 
 
@@ -244,14 +226,7 @@ def writing_answers(level: Level, place: str) -> str:
     text, written = stops(level)
     facts = [known(level, at) for at in range(len(level.fields))]
     fits = facts[0] if len(facts) == 1 else f"({', '.join(facts)})"
-    text += f"""
-pub returns-clause-writes : goal.returns-clause-writes
-returns-clause-writes g t c =
-    rw ({low}_is_own c.args.self.now) ({TAKES} ({written}))
-
-pub returns-clause-value : goal.returns-clause-value
-returns-clause-value g t c = ok_holds c.end.result _ ({low}_fits_in c.args.self.now _ refl {fits})
-"""
+    text += TEXTS.fill("writing_answers", level, TAKES=TAKES, written=written, fits=fits)
     words = tables(level)
     table = {
         "std.proofs.Common": words["std.proofs.Common"] + " arith rules",

@@ -1,10 +1,14 @@
 """The lemmas that derive.py writes for the read of a recursive struct: what its slots hold, and what follows for its fields."""
 from __future__ import annotations
 
+from ..words import TABLES, joined
 from .fields import missing, there
 from .given import put_together, words_of
 from .levels import Level, brought_in, tables
 from .structs import sections
+from shared.texts import Texts
+
+TEXTS = Texts(__file__)
 
 
 def slot(at: int, of: str = "s") -> str:
@@ -34,13 +38,10 @@ def held_lines(level: Level) -> str:
     lines = f"\nabbrev pub {name}Held{count} : List (Option Msg) → Unit {{0}} → Type 0\n{name}Held{count} fs s = NoField fs\n"
     for at in range(count - 1, -1, -1):
         part = level.fields[at][1]
-        lines += f"""
-abbrev pub {name}Slot{at} : Msg → {part.term} → Type 0
-{name}Slot{at} m a = {part.reads.format(reads=level.reads, k='m', a='a')}
-
-abbrev pub {name}Held{at} : List (Option Msg) → {slots_type(level, at)} → Type 0
-{name}Held{at} fs s = Slot {name}Slot{at} {name}Held{at + 1} fs s.0 s.1
-"""
+        lines += TEXTS.fill(
+            "held_lines", level, at=at, term=part.term, reads=part.reads.format(reads=level.reads, k='m', a='a'), slots_type=slots_type(level, at),
+            next=at + 1,
+        )
     return lines
 
 
@@ -76,11 +77,9 @@ def step_line(level: Level, at: int) -> str:
         return f"slot_later {start} {at - place - 1} {slot(place)} {later(place)} {tail(place + 1)} {fs} m {h} {e} (λ {new}. {term(place + 1, *new.split())})"
 
     of = f"{level.low}_step{at}"
-    return f"""
-pub {of} : (s : {slots_type(level)}) (x : {level.fields[at][1].term}) (fs : List (Option Msg)) (m : Msg) → {name}Held0 fs s → at {at} fs ≡ None → {name}Slot{at} m x
-    → (gs : List (Option Msg)) × (put {at} m fs ≡ Some gs) × {name}Held0 gs {after}
-{of} s x fs m h e r = {term(0, 'fs', 'h', 'e')}
-"""
+    return TEXTS.fill(
+        "step_line", level, of=of, slots_type=slots_type(level), term=level.fields[at][1].term, at=at, after=after, term_2=term(0, 'fs', 'h', 'e'),
+    )
 
 
 def gap_line(level: Level, at: int) -> str:
@@ -147,11 +146,7 @@ def fields_proofs(level: Level) -> str:
 
 def proof_sections(level: Level) -> list[tuple[str, str]]:
     """The lemmas, by what they depend on."""
-    name, low = level.name, level.low
-    return [("D", f"""
-pub {low}_no_byte : (v : {name}) → byte_of ({low}_data v) ≡ None
-{low}_no_byte v = ap byte_of ({low}_is v) ∙ structure_no_byte _
-"""), ("R", f"""
+    return [("D", TEXTS.fill("proof_sections", level)), ("R", f"""
 -- ---- what was read so far
 {fields_proofs(level)}""")]
 
@@ -164,13 +159,4 @@ def proofs_file(level: Level) -> str:
 
 
 def proof_tables(level: Level) -> dict[str, str]:
-    table = tables(level)
-    table["std.proofs.Common"] += " ◌⊎◌ inl inr"
-    table["rmp_wire.specs.Msg"] += " Msgs"
-    table["rmp_decode.specs.Fields"] += " Slot at put given_all"
-    return table | {
-        "rmp_encode.specs.Trees": "byte_of",
-        "rmp_encode.proofs.Fields": "structure_no_byte",
-        "rmp_decode.proofs.StructRuns": "slot_first slot_later slot_field slot_gap slot_gap_later slot_lacks",
-        "rmp_recursive.proofs.Fields": "first_tree later_tree later_lacks",
-    }
+    return joined(tables(level), TABLES["recursive slots"])

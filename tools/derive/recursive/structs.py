@@ -6,28 +6,16 @@ from .fields import counted_lines, from_lines, names_lines, pairs_of, wider_line
 from .given import in_order
 from .leaves import Part
 from .shapes import HERE
-from .levels import Again, Level, called, data_from, file_of, inductive, is_mapped, is_option, term_at
+from .forms import Again
+from .levels import Level, called, data_from, file_of, fits_of, inductive, is_mapped, is_option, term_at
+from shared.texts import Texts
+
+TEXTS = Texts(__file__)
 
 
 def shape_of(level: Level) -> str:
     """What it is read from, by steps."""
-    name, low = level.name, level.low
-    return f"""{names_lines(level)}
--- ---- what it is read from: the fields from each place on
-
-{from_lines(level)}
-abbrev pub {name}In : ℕ → Msg → {name} → Type 0
-{name}In zero m v = ⊥
-{name}In (suc n) m v = OfFields {low}_names (λ fs. {name}Fields ({name}In n) fs v) m
-
--- in some number of steps the message is read as the value
-abbrev pub Is{name} : Msg → {name} → Type 0
-Is{name} m v = InSteps {name}In m v
-
--- its fields are, each in its own number of steps
-abbrev pub {name}Read : Msg → {name} → Type 0
-{name}Read m v = OfFields {low}_names (λ fs. {name}Fields Is{name} fs v) m
-"""
+    return TEXTS.fill("shape_of", level, names=names_lines(level), fields=from_lines(level))
 
 
 def with_option(field: Field) -> str:
@@ -42,54 +30,16 @@ def own_fields(level: Level, data: list[str]) -> str:
 
 def written_of(level: Level) -> list[tuple[str, str]]:
     """What it is written as, level by level, and what is known of it."""
-    name, low = level.name, level.low
     data = [part.data.format(a=f"v.{field.name}") for field, part in level.fields]
     fits = [f"({part.fits.format(a=f'v.{field.name}', fits='fits').replace(HERE, 'X')})" for field, part in level.fields]
-    return [("D", f"""
--- ---- what it is written as: one level, of what its parts are written as
-
-abbrev pub {low}_level : {name}-F (Option Data) → Option Data
-{low}_level v = structure_of ({own_fields(level, data)})
-
-abbrev pub {low}_data : {name} → Option Data
-{low}_data = fold-{name} (Option Data) {low}_level
-"""), ("F", f"""
--- ---- what is known of a value
-
-abbrev pub {low}_layer_fits : (X : Type 0) → (X → {name}) → (X → Type 0) → {name}-F X → Type 0
-{low}_layer_fits X at fits v = {' × '.join(fits)}
-
-abbrev pub {low}_fits : {name} → Type 0
-{low}_fits = rec-{name} (Type 0) {low}_layer_fits
-""")]
+    return [("D", TEXTS.fill("data_of", level, data=own_fields(level, data))), fits_of(level, f"{level.low}_layer_fits X at fits v = {' × '.join(fits)}\n")]
 
 
 def steps_of(level: Level) -> str:
     """One step of its reading by what its parts are read from."""
-    name, low = level.name, level.low
+    name = level.name
     fields = f"{name}Fields"
-    return f"""
--- ---- one step more
-
-{wider_lines(level)}
-{low}_up : (n : ℕ) (m : Msg) (v : {name}) → {name}In n m v → {name}In (suc n) m v
-{low}_up zero m v h = absurd h
-{low}_up (suc n) m v h = fields_as {low}_names (λ fs. {fields} ({name}In n) fs v) (λ fs. {fields} ({name}In (suc n)) fs v)
-    ({low}_as0 ({name}In n) ({name}In (suc n)) ({low}_up n) v) m h
-
-{counted_lines(level)}
-pub {low}_made : (v : {name}) (m : Msg) → {name}Read m v → Is{name} m v
-{low}_made v m h =
-    let i = fields_in {low}_names (λ fs. {fields} Is{name} fs v) (λ n fs. {fields} ({name}In n) fs v) ({low}_in0 v) m h in (suc i.0, i.1)
-
-pub {low}_out : (m : Msg) (v : {name}) → Is{name} m v → {name}Read m v
-{low}_out m v (zero, h) = absurd h
-{low}_out m v (suc n, h) = fields_as {low}_names (λ fs. {fields} ({name}In n) fs v) (λ fs. {fields} Is{name} fs v)
-    ({low}_as0 ({name}In n) Is{name} (λ k w p. (n, p)) v) m h
-
-pub {low}_read : (m : Msg) → Readable Is{name} m → Readable {name}Read m
-{low}_read m (v, h) = (v, {low}_out m v h)
-"""
+    return TEXTS.fill("steps_of", level, wider=wider_lines(level), fields=fields, counted=counted_lines(level))
 
 
 def again_of(level: Level) -> list[tuple[Field, Again]]:
@@ -99,7 +49,7 @@ def again_of(level: Level) -> list[tuple[Field, Again]]:
 
 def option_lines(level: Level) -> str:
     """That P holds of what an option has, and what is known of it, by its cases."""
-    name, low, lines = level.name, level.low, ""
+    lines = ''
     for field, part in again_of(level):
         if is_of_options(part):
             lines += through_options(level, field, part)
@@ -110,17 +60,7 @@ def option_lines(level: Level) -> str:
         if part.inner:
             lines += composed_lines(level, field, part)
             continue
-        lines += f"""
-{low}_hold_{of} : {{B : Type 0}} (P : {name} → Type 0) (first : B → {name}) → ((b : B) → P (first b)) → (y : {name}-F B) (o : Option (Box B Global))
-    → IfSome (map-{name} B {name} first {made}).{of} (λ b. P b.value)
-{low}_hold_{of} P first h y None = tt
-{low}_hold_{of} P first h y (Some a) = h a.value
-
-{low}_through_{of} : (X : Type 0) (at : X → {name}) (k : {name} → Type 0) (y : {name}-F X) (o : Option (Box X Global))
-    → IfSome o (λ b. k (at b.value)) ≡ IfSome (map-{name} X {name} at {made}).{of} (λ b. k b.value)
-{low}_through_{of} X at k y None = refl
-{low}_through_{of} X at k y (Some a) = refl
-"""
+        lines += TEXTS.fill("option_holds", level, field=of, made=made)
     return lines
 
 
@@ -138,20 +78,19 @@ def through_options(level: Level, field: Field, part: Again) -> str:
     """What is known of each option of a list, where a level is mapped."""
     name, of, at = level.name, field.name, f"{level.low}_through_{field.name}"
     known = known_at(level, part, f"y.{of}", f"(map-{name} X {name} at y).{of}")
-    return f"""
-{at} : (X : Type 0) (at : X → {name}) (k : {name} → Type 0) (y : {name}-F X) → {known[0]} ≡ {known[1]}
-{at} X at k y = {called(part.patterns[0][2], f'y.{of}').removesuffix(' i')}
-"""
+    return TEXTS.fill(
+        "through_options", level, at=at, known=known[0], mapped=known[1], through=called(part.patterns[0][2], f'y.{of}').removesuffix(' i'),
+    )
 
 
 def mapped_options(level: Level, field: Field, part: Again) -> str:
     """What each option of a list is written as."""
     name, low, of, at = level.name, level.low, field.name, f"{level.low}_mapped_{field.name}"
     word, _, path = part.mapped.format(a=f"y.{of}").removesuffix(" i)").partition(" (")
-    return f"""
-{at} : (y : {name}-F {name}) → {part.data.format(a=f'(map-{name} {name} (Option Data) {low}_data y).{of}')} ≡ {part.own.format(a=f'y.{of}')}
-{at} y = ap {word} ({path})
-"""
+    return TEXTS.fill(
+        "mapped_options", level, at=at, data=part.data.format(a=f'(map-{name} {name} (Option Data) {low}_data y).{of}'),
+        own=part.own.format(a=f'y.{of}'), word=word, path=path,
+    )
 
 
 def composed_lines(level: Level, field: Field, part: Again) -> str:
@@ -202,11 +141,10 @@ def own_of(level: Level) -> str:
         data.append(data_from(part, f"{own}.{field.name}"))
         if is_option(part):
             at = f"{low}_at_{field.name}"
-            lines += f"""
-{at} : (y : {name}-F {name}) (o : {part.term}) → {part.data.format(a=f'({mapped} {with_option(field)}).{field.name}')} ≡ {data_from(part, 'o')}
-{at} y None = refl
-{at} y (Some a) = refl
-"""
+            lines += TEXTS.fill(
+                "option_data", level, at=at, term=part.term, mapped=part.data.format(a=f'({mapped} {with_option(field)}).{field.name}'),
+                data=data_from(part, 'o'),
+            )
             data[-1] = f"{at} {own} {own}.{field.name} i"
         elif is_of_options(part):
             lines += mapped_options(level, field, part)
@@ -214,15 +152,7 @@ def own_of(level: Level) -> str:
         elif is_mapped(part):
             data[-1] = part.mapped.format(a=f"{own}.{field.name}")
     is_ = f"{low}_is v ∙ (λ i. structure_of ({own_fields(level, data)}))" if lines or any(is_mapped(part) for _, part in level.fields) else f"{low}_is v"
-    return f"""{lines}
--- ---- what it is written as, by what its parts are
-
-abbrev pub {low}_own : {name}-F {name} → Option Data
-{low}_own x = structure_of {own_pairs(level, 'x')}
-
-pub {low}_is_own : (v : {name}) → {low}_data v ≡ {low}_own {own}
-{low}_is_own v = {is_}
-"""
+    return TEXTS.fill("own_of", level, lines=lines, pairs=own_pairs(level, 'x'), own=own, is_=is_)
 
 
 def sections(level: Level) -> list[tuple[str, str]]:
