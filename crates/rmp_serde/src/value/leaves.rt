@@ -1,5 +1,6 @@
 //! Makes values that are no list and no map.
-ghost use Rattle.std.specs.Prelude.{◌≡◌, ◌≤◌, ◌<◌, ◌^◌, ◌∷◌, [], length, pos, IfOk, IfErr, OnOk, OnErr};
+ghost use Rattle.std.specs.Float.{binary32, binary64};
+ghost use Rattle.std.specs.Prelude.{◌≡◌, ◌≤◌, ◌<◌, ◌^◌, ◌∷◌, [], length, pos, to_bits, IfOk, IfErr, OnOk, OnErr};
 ghost use Rattle.rmp_encode.specs.Errors.{IsTooLong};
 ghost use Rattle.rmp_wire.specs.Heads.{fits_head};
 ghost use Rattle.rmp_wire.specs.Msg as msg;
@@ -12,6 +13,7 @@ use crate::value::flat::Nodes;
 use rmp_encode::Error;
 use rmp_wire::Head;
 use std::alloc::{AllocError, Global};
+use std::num::{f32_to_bits_with_nan, f64_to_bits_with_nan};
 
 // Returns a length as a head states it. One of 2 ^ 32 or more is refused.
 pub(super) fn head_len(len: usize) -> Result<u32, Error>
@@ -78,6 +80,37 @@ impl Value {
         ensures value { result ≡ msg.whole signed }
     {
         leaf(alloc, Head::Whole(i128::from(signed)))
+    }
+
+    /// Makes a 32-bit float. Each NaN becomes the one of the bits 7fc00000.
+    ///
+    /// # Examples
+    /// ```
+    /// use rmp_serde::{Value, to_vec};
+    ///
+    /// let half = Value::from_f32(alloc, 0.5);
+    /// assert_eq!(rt; to_vec(alloc, &half)?.as_slice(), [0xca, 0x3f, 0x00, 0x00, 0x00].as_slice());
+    /// ```
+    pub fn from_f32(alloc: Global, value: f32) -> Value
+        ensures value { result ≡ msg.float32 (to_bits binary32 value) }
+    {
+        Value::from_f32_bits(alloc, f32_to_bits_with_nan(value))
+    }
+
+    /// Makes a 64-bit float. Each NaN becomes the one of the bits 7ff8000000000000.
+    ///
+    /// # Examples
+    /// ```
+    /// use rmp_serde::{Value, to_vec};
+    ///
+    /// let half = Value::from_f64(alloc, 0.5);
+    /// assert_eq!(rt; to_vec(alloc, &half)?.as_slice(), [0xcb, 0x3f, 0xe0, 0, 0, 0, 0, 0, 0].as_slice());
+    /// assert_eq!(rt; half.root().as_f64(), Some(0.5));
+    /// ```
+    pub fn from_f64(alloc: Global, value: f64) -> Value
+        ensures value { result ≡ msg.float64 (to_bits binary64 value) }
+    {
+        Value::from_f64_bits(alloc, f64_to_bits_with_nan(value))
     }
 
     /// Makes a 32-bit float of its bits.
