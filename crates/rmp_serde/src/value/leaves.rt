@@ -133,6 +133,15 @@ impl Value {
     ///
     /// # Errors
     /// `InvalidDataModel` for a length of 2 ^ 32 or more, and otherwise `OutOfMemory`.
+    ///
+    /// # Examples
+    /// ```
+    /// use rmp_serde::{Value, to_vec};
+    ///
+    /// let name = Value::from_text(alloc, "Bobby")?;
+    /// assert_eq!(rt; name.root().as_str(), Some("Bobby"));
+    /// assert_eq!(rt; to_vec(alloc, &name)?.as_slice(), b"\xa5Bobby".as_slice());
+    /// ```
     #[tactic(auto, unfolding(rmp_wire::specs::Heads::fits_head))]
     pub fn from_text(alloc: Global, text: &str) -> Result<Value, Error>
         ensures value { IfOk result (λ v. v ≡ msg.text text.now) }
@@ -146,6 +155,14 @@ impl Value {
     ///
     /// # Errors
     /// Those of `from_text`.
+    ///
+    /// # Examples
+    /// ```
+    /// use rmp_serde::{Value, to_vec};
+    ///
+    /// let bytes = Value::from_bytes(alloc, &[1, 2])?;
+    /// assert_eq!(rt; to_vec(alloc, &bytes)?.as_slice(), [0xc4, 2, 1, 2].as_slice());
+    /// ```
     #[tactic(auto, unfolding(rmp_wire::specs::Heads::fits_head))]
     pub fn from_bytes(alloc: Global, bytes: &[u8]) -> Result<Value, Error>
         ensures value { IfOk result (λ v. v ≡ msg.bin bytes.now) }
@@ -159,6 +176,14 @@ impl Value {
     ///
     /// # Errors
     /// Those of `from_text`.
+    ///
+    /// # Examples
+    /// ```
+    /// use rmp_serde::{Value, to_vec};
+    ///
+    /// let point = Value::from_ext(alloc, 7, &[1, 2])?;
+    /// assert_eq!(rt; to_vec(alloc, &point)?.as_slice(), [0xd5, 7, 1, 2].as_slice());
+    /// ```
     #[tactic(auto, unfolding(rmp_wire::specs::Heads::fits_head))]
     pub fn from_ext(alloc: Global, tag: i8, bytes: &[u8]) -> Result<Value, Error>
         ensures value { IfOk result (λ v. v ≡ msg.extension tag bytes.now) }
