@@ -2,7 +2,8 @@
 use Rattle.std.proofs.Common.{◌≡◌, ◌∙◌, sym, ap, subst, refl, ℕ, suc, ◌+◌, ◌^◌, ◌<◌, ◌≤◌, arith, List, [], ◌∷◌, ◌++◌, length, drop, take, append_assoc, length-append}
 use Rattle.std.specs.Prelude.{map as each}
 use Rattle.std.specs.List.{AllByRecursion}
-use Rattle.std.proofs.lemmas.List.{drop-append_seam, drop-drop, length-map, map-append}
+use Rattle.std.proofs.Math.Seq.{drop-append_seam}
+use Rattle.std.proofs.lemmas.List.{drop-drop, length-map, map-append, take_at}
 use Rattle.rmp_wire.specs.Heads.{fits_head}
 use Rattle.rmp_wire.specs.declared.head.Head.TheVariants.{Array, Map}
 use Rattle.rmp_wire.specs.Msg.{Msg, nil, truth, whole, float32, float64, text, bin, list, map, extension, Msgs, no_items, item, Pairs, no_pairs, pair, count, count_pairs, items_of, msgs, pairs_of, pairs}
@@ -10,7 +11,7 @@ use Rattle.rmp_wire.specs.Spelling.{FitsAll, FitsPairs}
 use Rattle.rmp_wire.proofs.Lists.{msgs-items_of}
 use Rattle.rmp_decode.proofs.Rows.{append, push}
 use Rattle.rmp_serde.specs.Flat.{head_in, content_in, token_in, heads_in, heads_of, heads_all, takes_in, takes_then, told_tree, size_of, AllTake, EndsBy, IsFlat, IsRow, IsWithin}
-use Rattle.rmp_serde.specs.Pushing.{moved, AreNodesOf}
+use Rattle.rmp_serde.specs.Pushing.{moved, AreNodesOf, AreSame, Begins}
 use Rattle.rmp_serde.specs.Tokens.{Token, tokens, tokens_all, flat_pairs, built, first_tree}
 use Rattle.rmp_serde.specs.declared.value.flat.Node.{Node}
 use Rattle.rmp_serde.specs.declared.value.flat.Nodes.{Nodes}
@@ -175,6 +176,29 @@ module _ (old new : Nodes) (ms : List Msg) (m : Msg) (root told : Node) (parts :
         utf8 = is_more.utf8;
       }
 
+-- what was added, step by step
+pub new_nodes : (old room first all row : List Node) (told : Node) (by n : ℕ) (rest : List Node) → by ≡ n → room ≡ old → first ≡ room ++ moved by told ∷ []
+    → all ≡ first ++ each (moved by) row → row ≡ rest
+    → all ≡ old ++ each (moved n) (told ∷ rest)
+new_nodes old room first all row told by n rest b r f a e =
+    a ∙ (λ i. (f ∙ ap (λ z. z ++ moved by told ∷ []) r) i ++ each (moved by) (e i)) ∙ append_assoc old (moved by told ∷ []) (each (moved by) rest)
+    ∙ ap (λ z. old ++ each (moved z) (told ∷ rest)) b
+
+-- what was there is at the front, and stays where the rest is cut off
+pub begins : (old new : Nodes) (more : List Node) (bytes : List ℕ) → new.nodes.items ≡ old.nodes.items ++ more → new.bytes.items ≡ old.bytes.items ++ bytes
+    → Begins old new
+begins old new more bytes en eb = record {
+  nodes = ap (take (length old.nodes.items)) en ∙ take_at old.nodes.items more (length old.nodes.items) refl;
+  bytes = ap (take (length old.bytes.items)) eb ∙ take_at old.bytes.items bytes (length old.bytes.items) refl;
+}
+
+pub cut_off : (old first all new : Nodes) (n b : ℕ) → Begins old first → AreSame first all → n ≡ length old.nodes.items → b ≡ length old.bytes.items
+    → new.nodes.items ≡ take n all.nodes.items → new.bytes.items ≡ take b all.bytes.items → AreSame old new
+cut_off old first all new n b f s en eb cn cb = record {
+  nodes = cn ∙ (λ i. take (en i) (s.nodes i)) ∙ f.nodes;
+  bytes = cb ∙ (λ i. take (eb i) (s.bytes i)) ∙ f.bytes;
+}
+
 -- ---- the parts of a list and of a map
 
 -- the message is the list of these items
@@ -214,6 +238,11 @@ list_open n takes parts (list ms) f e =
       many = ap first_count h;
       made = parts_made (nodes.List n takes) parts ms f (record { told = ap (drop 1) h; within = f.within; fits = v.0.1; utf8 = v.1 });
     }
+
+pub open_list : (root : Node) (n takes : ℕ) (parts : Nodes) (m : Msg) → root ≡ nodes.List n takes → IsFlat root parts → told_tree (heads_all root parts) ≡ m
+    → IsListOf n parts m
+open_list root n takes parts m is f e =
+    list_open n takes parts m (subst (λ z. IsFlat z parts) is f) (subst (λ z. told_tree (heads_all z parts) ≡ m) is e)
 
 longer : (ms : Msgs) (m : Msg) → count (msgs (items_of ms ++ m ∷ [])) ≡ suc (count ms)
 longer no_items m = refl
@@ -271,6 +300,11 @@ map_open n takes parts (map ps) f e =
         utf8 = utf8_flat ps v.1;
       });
     }
+
+pub open_map : (root : Node) (n takes : ℕ) (parts : Nodes) (m : Msg) → root ≡ nodes.Map n takes → IsFlat root parts → told_tree (heads_all root parts) ≡ m
+    → IsMapOf n parts m
+open_map root n takes parts m is f e =
+    map_open n takes parts m (subst (λ z. IsFlat z parts) is f) (subst (λ z. told_tree (heads_all z parts) ≡ m) is e)
 
 longer_map : (ps : Pairs) (k v : Msg) → count_pairs (pairs (pairs_of ps ++ (k, v) ∷ [])) ≡ suc (count_pairs ps)
 longer_map no_pairs k v = refl

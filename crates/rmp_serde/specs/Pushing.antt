@@ -1,5 +1,5 @@
 -- What it means to add a part to a list or a map.
-use Rattle.std.specs.Prelude.{◌≡◌, ◌+◌, ℕ, suc, List, [], ◌∷◌, ◌++◌, codes, Option, Some, None}
+use Rattle.std.specs.Prelude.{◌≡◌, ◌+◌, ℕ, suc, List, [], ◌∷◌, ◌++◌, length, take, codes, Option, Some, None}
 use Rattle.rmp_wire.specs.Msg.{Msg, list, map, msgs, items_of, pairs, pairs_of, count, count_pairs}
 use Rattle.rmp_wire.specs.Spelling.{FitsAll}
 use Rattle.rmp_encode.specs.declared.error.Error.{Error}
@@ -54,6 +54,11 @@ pub record AreNodesOf (made : Nodes) (ms : List Msg) : Type 0 where
   pub within : IsWithin made
   pub fits : FitsAll (msgs ms)
   pub utf8 : ItemsUtf8 (msgs ms)
+
+-- the nodes and the content begin with these
+pub record Begins (old new : Nodes) : Type 0 where
+  pub nodes : take (length old.nodes.items) new.nodes.items ≡ old.nodes.items
+  pub bytes : take (length old.bytes.items) new.bytes.items ≡ old.bytes.items
 
 -- the same nodes and the same content
 pub record AreSame (old new : Nodes) : Type 0 where

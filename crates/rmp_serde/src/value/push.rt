@@ -1,9 +1,9 @@
 //! Adds copies of values to a list or a map.
-ghost use Rattle.std.specs.Prelude.{◌≡◌, ◌≤◌, ◌+◌, ◌++◌, ◌∷◌, [], List, Some, length, map, vec_len, vec_capacity, OnOk, OnErr, IfErr};
+ghost use Rattle.std.specs.Prelude.{◌≡◌, ◌≤◌, ◌+◌, ◌-◌, ◌++◌, ◌∷◌, [], List, Some, length, map, vec_len, vec_capacity, OnOk, OnErr, IfErr};
 ghost use Rattle.std.specs.List.{AllByRecursion};
 ghost use Rattle.rmp_wire.specs.Msg.{Msg};
 ghost use Rattle.rmp_serde.specs.Flat.{EndsBy};
-ghost use Rattle.rmp_serde.specs.Pushing.{moved, pushed, pushed_pair, AreNodesOf, AreSame, PushFails, PushPairFails};
+ghost use Rattle.rmp_serde.specs.Pushing.{moved, pushed, pushed_pair, AreNodesOf, AreSame, Begins, PushFails, PushPairFails};
 
 use crate::value::Value;
 use crate::value::flat::{Node, Nodes};
@@ -33,6 +33,7 @@ impl Nodes {
         requires room { AllByRecursion (EndsBy (18446744073709551615 - by)) row.now }
         ensures nodes { self.new.nodes.items ≡ self.old.nodes.items ++ map (moved by) row.now }
         ensures bytes { self.new.bytes ≡ self.old.bytes }
+        ensures capacity { vec_capacity self.new.nodes ≡ vec_capacity self.old.nodes }
     {
         for node in row {
             self.nodes.push_reserved(node.moved(by));
@@ -42,6 +43,7 @@ impl Nodes {
     // Adds a copy of a message: its root, and the nodes of its parts. Where memory is refused they stay as they are.
     fn append(&mut self, item: &Value) -> Result<(), AllocError>
         ensures ok { OnOk result ((ms : List Msg) → AreNodesOf self.old ms → AreNodesOf self.new (ms ++ item.now ∷ [])) }
+        ensures front { OnOk result (Begins self.old self.new) }
         ensures kept { OnErr result (AreSame self.old self.new) }
     {
         let parts = &item.parts;
