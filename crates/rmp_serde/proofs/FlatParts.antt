@@ -125,7 +125,7 @@ utf8_append : (ms ks : Msgs) → ItemsUtf8 ms → ItemsUtf8 ks → ItemsUtf8 (ap
 utf8_append no_items ks a b = b
 utf8_append (item m ms) ks a b = (a.0, utf8_append ms ks a.1 b)
 
-utf8_flat : (ps : Pairs) → PairsUtf8 ps → ItemsUtf8 (flat_pairs ps)
+pub utf8_flat : (ps : Pairs) → PairsUtf8 ps → ItemsUtf8 (flat_pairs ps)
 utf8_flat no_pairs a = a
 utf8_flat (pair k v ps) a = (a.0, (a.1, utf8_flat ps a.2))
 

@@ -42,6 +42,7 @@ pub use Rattle.rmp_types.specs.Payloads
 pub use Rattle.rmp_types.specs.TimestampRounds
 pub use Rattle.rmp_types.specs.Timestamps
 pub mod Attributes
+pub mod Doubles
 pub mod Equal
 pub mod EqualLaws
 pub mod ExplainedText
@@ -58,6 +59,7 @@ pub mod Parts
 pub mod PartsLeft
 pub mod Paths
 pub mod Places
+pub mod Pushing
 pub mod RawRounds
 pub mod Quoted
 pub mod Raws

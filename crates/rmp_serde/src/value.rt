@@ -6,6 +6,7 @@ pub(crate) mod flat;
 mod kind;
 mod leaves;
 mod lists;
+mod push;
 mod read;
 mod reference;
 mod round_trip;

@@ -68,8 +68,11 @@ impl Float64 {
         f64_from_bits_with_nan(self.bits)
     }
 
-    // The double that a message is whose head this is, and which has nothing else.
-    fn from_head(head: Head) -> Result<Float64, Error>
+    /// Makes it of the head of a message that is a float or a whole number, and so has nothing after its head.
+    ///
+    /// # Errors
+    /// `Syntax(InvalidValue)` for a whole number that no double holds exactly, and `Syntax(InvalidType)` for any other kind.
+    pub fn from_head(head: Head) -> Result<Float64, Error>
         ensures ok { IfOk result (λ v. IsFloatHead head v.bits) }
         ensures err { IfErr result (NoFloatHead head) }
     {

@@ -30,7 +30,7 @@ const MOST: u32 = 999_999_999;
 /// A point in time, which is the extension of type -1 that the MessagePack specification has for it.
 ///
 /// It is read from 4, 8 or 12 bytes, and written in the fewest that hold it: in 4 the seconds from 1970 to 2106 without
-/// nanoseconds, in 8 the seconds to 2514, and in 12 any.
+/// nanoseconds, in 8 the seconds to 2514, and in 12 any. An earlier point in time is less than a later one.
 ///
 /// # Examples
 /// ```
@@ -43,7 +43,7 @@ const MOST: u32 = 999_999_999;
 /// assert_eq!(rt; same.seconds, 1);
 /// assert_eq!(rt; same.nanoseconds, 500_000_000);
 /// ```
-#[derive(Clone, Copy, Debug, PartialEq, Eq)]
+#[derive(Clone, Copy, Debug, PartialEq, Eq, PartialOrd, Ord)]
 pub struct Timestamp {
     /// The seconds since the beginning of 1970 in UTC, without leap seconds. They are negative before it.
     pub seconds: i64,
@@ -54,6 +54,16 @@ pub struct Timestamp {
 
 impl Timestamp {
     /// Makes a point in time. Returns `None` for nanoseconds above 999,999,999.
+    ///
+    /// # Examples
+    /// ```
+    /// use rmp_serde::Timestamp;
+    ///
+    /// // half a second before 1970
+    /// let before = Timestamp::new(-1, 500_000_000).unwrap();
+    /// assert!(rt; before < Timestamp::new(0, 0).unwrap());
+    /// assert!(rt; Timestamp::new(0, 1_000_000_000).is_none());
+    /// ```
     pub fn new(seconds: i64, nanoseconds: u32) -> Option<Timestamp>
         ensures { MatchOption result (999999999 < nanoseconds)
             (λ t. (nanoseconds ≤ 999999999) × (t.seconds ≡ seconds) × (t.nanoseconds ≡ nanoseconds)) }

@@ -9,6 +9,7 @@ mod making;
 mod messages;
 mod own_types;
 mod parts;
+mod pushing;
 mod raw;
 mod reads;
 mod scan;

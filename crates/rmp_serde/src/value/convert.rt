@@ -54,6 +54,17 @@ pub fn to_value<T: Serialize>(alloc: Global, value: &T) -> Result<Value, encode:
 ///
 /// # Errors
 /// Those of `to_value`.
+///
+/// # Examples
+/// ```
+/// use rmp_serde::{from_slice, to_value_named};
+/// use std::collections::BTreeMap;
+///
+/// // A type without structs has the same tree by `to_value`.
+/// let ages: BTreeMap<String, u8> = from_slice(alloc, b"\x81\xa5Bobby\x08")?;
+/// let value = to_value_named(alloc, &ages)?;
+/// assert_eq!(rt; value.get("Bobby").and_then(|age| age.as_u64()), Some(8));
+/// ```
 pub fn to_value_named<T: Serialize>(alloc: Global, value: &T) -> Result<Value, encode::Error>
     ensures ok { IfOk result (λ v. tree_of named_settings (T.data_of value.now false) ≡ Some v) }
     ensures value { OnOk result (T.is_value value.now) }

@@ -120,8 +120,8 @@ impl Node {
         }
     }
 
-    // The node, where a list or a map takes `count` nodes.
-    fn taking(self, count: usize) -> Node
+    /// Returns the node, where a list or a map takes `count` nodes.
+    pub(crate) fn taking(self, count: usize) -> Node
         ensures head { head_in result ≡ head_in self }
         ensures content { (buffer : List ℕ) → content_in buffer result ≡ content_in buffer self }
         ensures within { (end : ℕ) → EndsBy end self → EndsBy end result }

@@ -5,6 +5,7 @@ ghost use Rattle.rmp_serde.specs.Flat.{head_in};
 ghost use Rattle.rmp_serde.specs.Tokens.{first_tree, row_from};
 
 mod copy;
+mod floats;
 mod get;
 mod key;
 mod pairs;

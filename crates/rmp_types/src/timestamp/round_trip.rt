@@ -1,6 +1,9 @@
 //! Points in time are read as they were written, and an end of their bytes is inside of a message.
 ghost use Rattle.std.proofs.Common.{refl};
+ghost use Rattle.std.specs.Cmp.{int_cmp_total, nat_cmp_total};
+ghost use Rattle.std.specs.Ordering.{int_cmp, nat_cmp};
 ghost use Rattle.std.specs.Prelude.{◌≡◌};
+ghost use Rattle.rmp_round_trip.specs.AlikeOrder.{then_tied, tied};
 ghost use Rattle.rmp_round_trip.specs.LeafRounds.{extension_other};
 ghost use Rattle.rmp_types.specs.Payloads.{time_payload};
 ghost use Rattle.rmp_types.specs.TimestampRounds.{time_alike, time_inside, time_only, time_row};
@@ -8,7 +11,7 @@ ghost use Rattle.rmp_types.specs.Timestamps.{time_tag};
 
 use crate::timestamp::Timestamp;
 use rmp_ends::EndsInside;
-use rmp_round_trip::{NeverNil, RoundTrip};
+use rmp_round_trip::{ContentOrd, NeverNil, RoundTrip};
 use rmp_wire::ReadSlice;
 
 impl<'de, R: ReadSlice<'de>> RoundTrip<'de, R> for Timestamp {
@@ -25,6 +28,10 @@ impl<'de, R: ReadSlice<'de>> RoundTrip<'de, R> for Timestamp {
 
 impl NeverNil for Timestamp {
     ghost never_nil = { λ s v. extension_other s time_tag (time_payload v.seconds v.nanoseconds) };
+}
+
+impl<'de, R: ReadSlice<'de>> ContentOrd<'de, R> for Timestamp {
+    ghost equal = { λ v w h. then_tied _ _ (tied int_cmp int_cmp_total v.seconds w.seconds h.0) (tied nat_cmp nat_cmp_total v.nanoseconds w.nanoseconds h.1) };
 }
 
 impl<'de, R: ReadSlice<'de>> EndsInside<'de, R> for Timestamp {

@@ -1,6 +1,8 @@
 //! Points in time.
 use rmp_serde::decode::{Error, Text};
 use rmp_serde::{Timestamp, Value, from_slice, to_vec};
+use std::collections::BTreeMap;
+use std::test::Fail;
 
 // The point in time that a message is.
 fn time_of(rt: &HostRuntime, message: &[u8]) -> Result<(i64, u32), Error> {
@@ -149,5 +151,32 @@ fn a_point_in_time_is_an_extension(rt: HostRuntime) -> Result<(), Error> {
     assert!(rt;
         matches!(value.root().as_ext(), Some((-1, bytes)) if bytes == b"\0\0\0\x01".as_slice())
     );
+    Ok(())
+}
+
+#[test]
+fn times_are_keys_in_their_order(rt: HostRuntime) -> Result<(), Fail> {
+    let alloc = rt.alloc();
+    let moments = [
+        (1, 0),
+        (0, 999_999_999),
+        (-1, 1),
+        (i64::MAX, 0),
+        (0, 0),
+        (i64::MIN, 999_999_999),
+        (-1, 0),
+    ];
+    let mut map = BTreeMap::new(alloc);
+    for (place, (seconds, nanoseconds)) in moments.iter().enumerate() {
+        let time = Timestamp::new(*seconds, *nanoseconds).unwrap();
+        map.insert(time, place as u8)?;
+    }
+    let bytes = to_vec(alloc, &map)?;
+    let read: BTreeMap<Timestamp, u8> = from_slice(alloc, &bytes)?;
+    let mut places = Vec::new(alloc);
+    for (_, place) in read.iter() {
+        places.push(*place)?;
+    }
+    assert_eq!(rt; places.as_slice(), [5u8, 6, 2, 4, 1, 0, 3].as_slice());
     Ok(())
 }

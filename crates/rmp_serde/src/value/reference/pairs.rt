@@ -18,6 +18,19 @@ impl<'a> ValueRef<'a> {
     ghost use Rattle.rmp_serde.specs.PairsLeft.{pairs_left, pairs_in_turn};
 
     /// Returns the pairs of a map, each a key and its value. Any other kind has none.
+    ///
+    /// # Examples
+    /// ```
+    /// use rmp_serde::Value;
+    ///
+    /// let ages = Value::from_slice(alloc, b"\x82\xa5Bobby\x08\xa3Rex\x05")?;
+    /// let mut sum = 0;
+    /// for (name, age) in ages.root().pairs() {
+    ///     assert!(rt; name.as_str().is_some());
+    ///     sum += age.as_u64().unwrap_or(0);
+    /// }
+    /// assert_eq!(rt; sum, 13);
+    /// ```
     #[tactic(auto, using(crate::proofs::PairsLeft::turn_of_map))]
     pub fn pairs(self) -> Pairs<'a>
         ensures pairs { pairs_left result ≡ pairs_in_turn (tree self.entry) }

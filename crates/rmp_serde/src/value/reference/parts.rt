@@ -35,6 +35,18 @@ impl<'a> ValueRef<'a> {
 
     /// Returns the items of a list, or the keys and values of a map in turn: each key, and then its value. Any
     /// other kind has none.
+    ///
+    /// # Examples
+    /// ```
+    /// use rmp_serde::Value;
+    ///
+    /// let list = Value::from_slice(alloc, b"\x93\x01\x02\x04")?;
+    /// let mut sum = 0;
+    /// for item in list.root().parts() {
+    ///     sum += item.as_u64().unwrap_or(0);
+    /// }
+    /// assert_eq!(rt; sum, 7);
+    /// ```
     pub fn parts(self) -> Parts<'a>
         ensures parts { parts_left result ≡ parts_in_turn (tree self.entry) }
     {
