@@ -70,10 +70,10 @@ def implementation(name: str, n: int, elements: str, named: str, path: str = "")
     pieces = in_a_row(f"\n        value_of s ({kind}.data_of v.{field}.now s.human) ({kind}.marks v.{field}.now s)" for kind, field in fields)
     return TEXTS.fill(
         "implementation", bounds=bounded(names, 'Serialize'), name=name, kinds=', '.join(names), n=n,
-        in_a_row=in_a_row((f'{kind}.data_of v.{field}.now human' for kind, field in fields)),
-        rest_2=' × '.join((f'{kind}.is_value v.{field}.now' for kind, field in fields)),
-        in_a_row_2=in_a_row((f'{kind}.refuses v.{field}.now' for kind, field in fields)),
-        bracketed=bracketed([f'{kind}.takes_memory s' for kind in names]), pieces=pieces, path=path, elements=elements, named=named,
+        parts=in_a_row((f'{kind}.data_of v.{field}.now human' for kind, field in fields)),
+        known=' × '.join((f'{kind}.is_value v.{field}.now' for kind, field in fields)),
+        refusals=in_a_row((f'{kind}.refuses v.{field}.now' for kind, field in fields)),
+        memory=bracketed([f'{kind}.takes_memory s' for kind in names]), pieces=pieces, path=path, elements=elements, named=named,
     )
 
 

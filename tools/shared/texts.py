@@ -18,6 +18,6 @@ class Texts:
         self.texts = {name: Template(text.removesuffix("\n")) for name, text in zip(parts[1::2], parts[2::2])}
 
     def fill(self, text: str, of: Optional[Any] = None, /, **words: object) -> str:
-        """A text with these words in its places, where {name} and {low} are those of a type."""
+        """A text with these words in its places. `${name}` and `${low}` are those of a type, if one is given."""
         own = {"name": of.name, "low": of.low} if of else {}
         return self.texts[text].substitute(own | words)

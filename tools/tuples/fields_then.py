@@ -121,8 +121,8 @@ def code(group: Group) -> str:
     slots = f"slots: &mut {group.slots()}, refusal: &mut Option<Error>"
     settings = "C: SerializerConfig"
     return TEXTS.fill(
-        "code", slots=group.slots(), word=group.word, on=on, settings=settings, slots_2=slots, of=group.of(),
-        made=made(group, 'Some', 'None => None'), made_2=made(group, 'Ok', 'Err(why) => Err(why)'),
+        "code", slots=group.slots(), word=group.word, on=on, settings=settings, given=slots, of=group.of(),
+        some=made(group, 'Some', 'None => None'), ok=made(group, 'Ok', 'Err(why) => Err(why)'),
     )
 
 

@@ -33,8 +33,8 @@ def rounds(count: int) -> str:
     of = tuple_of(kinds)
     only = f"(λ m. (w : _) → ⟦<{of} as Deserialize<'de, R>>⟧.reads s.human R.lends m w → {same})"
     return TEXTS.fill(
-        "rounds", bounded=bounded(kinds, "RoundTrip<'de, R>"), of=of, any_of=any_of(borrows), stated=stated, read=read, same=same, alike=alike,
-        only=only, alone=alone, both=both, bounded_2=bounded(kinds, 'Serialize'),
+        "rounds", bounds=bounded(kinds, "RoundTrip<'de, R>"), of=of, any_of=any_of(borrows), stated=stated, read=read, same=same, alike=alike,
+        only=only, alone=alone, both=both, written_bounds=bounded(kinds, 'Serialize'),
         in_a_row=in_a_row((f'{kind}.data_of v.{i} s.human' for kind, i, *_ in places)), bounded_3=bounded(kinds, "ContentOrd<'de, R>"), equal=equal,
     )
 

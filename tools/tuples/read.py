@@ -94,7 +94,7 @@ def reads_fields(count: int) -> str:
     given = " → ".join(f"(Bool → Bool → Msg → {kind} → Type 0) → Option {kind}" for kind in kinds)
     words = " ".join(f"r{at} a{at}" for at in places)
     fields = chained([f"Field (λ j. r{at} human lends j v{place_of(at, count)}) (Absent a{at} v{place_of(at, count)})" for at in places], "NoField")
-    return TEXTS.fill("reads_fields", count=count, rest=' '.join(kinds), given=given, value=value(kinds), words=words, fields=fields)
+    return TEXTS.fill("reads_fields", count=count, kinds=' '.join(kinds), given=given, value=value(kinds), words=words, fields=fields)
 
 
 def read_fields(count: int) -> str:

@@ -52,5 +52,5 @@ def tuples(count: int) -> str:
         in_a_row=in_a_row((f'{k}.data_of v.{i} human' for i, k in enumerate(names))),
         known=' × '.join((f'{k}.is_value v.{i}' for i, k in enumerate(names))), memory=bracketed([f'{k}.takes_memory s' for k in names]),
         refused=bracketed([f'{k}.refuses v.{i}' for i, k in enumerate(names)]), holder=NAMES[count - 1],
-        rest_2=', '.join((f'{field}: &self.{i}' for i, field in enumerate(FIELDS[:count]))), count=count,
+        refs=', '.join((f'{field}: &self.{i}' for i, field in enumerate(FIELDS[:count]))), count=count,
     )

@@ -58,7 +58,7 @@ def fields_shape(of: Content) -> str:
     return TEXTS.fill(
         "fields_shape", of, variant=of.shape.name, names=names_lines(of)[1:], fields=from_lines(of),
         by=f'(Msg → {of.whole.name} → Type 0) → ' * (not of.is_leaf()), term=of.term, read=of.said('Read', 'reads'),
-        said_2=of.said('Fields', 'reads'),
+        its_fields=of.said('Fields', 'reads'),
     )
 
 

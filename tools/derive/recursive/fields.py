@@ -44,7 +44,7 @@ def from_lines(level: Level) -> str:
         kind = f"{by}{level.opened} → List (Option Msg) → Type 0"
         fields.append(f"abbrev pub {level.name}From{at} : {kind}\n{level.said(f'From{at}', 'reads')} x fs = {holds} fs\n")
     return "\n".join(fields) + TEXTS.fill(
-        "from_lines", level, by=by, term=level.term, said=level.said('Fields', 'reads'), said_2=level.said('From0', 'reads'), own=level.own(),
+        "from_lines", level, by=by, term=level.term, its_fields=level.said('Fields', 'reads'), first=level.said('From0', 'reads'), own=level.own(),
     )
 
 

@@ -242,8 +242,10 @@ def list_of_parts(level: Level, part: Again, kind: str) -> Again:
         mapped=f"{word}_of (each_mapped {of.data()} {of.own} {of.mapped_by(f'{level.low}_data', name)} {by_cases(part, ['refl'] * len(part.patterns))} {{a}}.items i)",
         wider=f"row_as {of.reads('P')} {of.reads('Q')} {wider_of(of)} m a.items h",
         counted=f"row_in {steps} {up} m a.items (row_as {reads} (InSteps {steps}) {counted} m a.items h)",
-        parts=f"All (λ (q : {part.term}). {part.parts.format(a='q')}) {{a}}.items", known="all_by _ a.items h" if part.known == "h" else f"all_known _ _ (λ (q : {part.term}) g. {of.said(part.known)}) a.items h",
-        own=f"{word}_of {data}", is_some=f"({word}_some {data} (each_data {of.own} {{a}}.items (each_as _ _ (λ (q : {part.term}) g. {put_in(part.is_some.format(a='q'), {'h': 'g'})}) {{a}}.items h)))",
+        parts=f"All (λ (q : {part.term}). {part.parts.format(a='q')}) {{a}}.items",
+        known="all_by _ a.items h" if part.known == "h" else f"all_known _ _ (λ (q : {part.term}) g. {of.said(part.known)}) a.items h",
+        own=f"{word}_of {data}",
+        is_some=f"({word}_some {data} (each_data {of.own} {{a}}.items (each_as _ _ (λ (q : {part.term}) g. {put_in(part.is_some.format(a='q'), {'h': 'g'})}) {{a}}.items h)))",
         other=f"{word}_other s _", same=f"Alike {of.same} x.items y.items",
         alike=f"ap {word}_of (maps_alike_by {of.own} {of.same} (λ q r e. {part.alike_by('q', 'r', 'e')}) {{v}}.items {{w}}.items {{e}})", told="{e}",
     )

@@ -78,7 +78,7 @@ def step_line(level: Level, at: int) -> str:
 
     of = f"{level.low}_step{at}"
     return TEXTS.fill(
-        "step_line", level, of=of, slots_type=slots_type(level), term=level.fields[at][1].term, at=at, after=after, term_2=term(0, 'fs', 'h', 'e'),
+        "step_line", level, lemma=of, slots=slots_type(level), kind=level.fields[at][1].term, at=at, after=after, proof=term(0, 'fs', 'h', 'e'),
     )
 
 
