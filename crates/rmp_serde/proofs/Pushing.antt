@@ -1,10 +1,9 @@
 -- Nodes to which those of one more message are added.
-use Rattle.std.proofs.Common.{◌≡◌, ◌∙◌, sym, ap, subst, refl, ℕ, suc, ◌+◌, ◌^◌, ◌<◌, ◌≤◌, arith, List, [], ◌∷◌, ◌++◌, length, drop, take, append_assoc, length-append}
+use Rattle.std.proofs.Common.{◌≡◌, ◌∙◌, sym, ap, subst, refl, ℕ, suc, ◌+◌, ◌^◌, ◌<◌, arith, List, [], ◌∷◌, ◌++◌, length, drop, take, append_assoc, length-append}
 use Rattle.std.specs.Prelude.{map as each}
 use Rattle.std.specs.List.{AllByRecursion}
 use Rattle.std.proofs.Math.Seq.{drop-append_seam}
 use Rattle.std.proofs.lemmas.List.{drop-drop, length-map, map-append, take_at}
-use Rattle.rmp_wire.specs.Heads.{fits_head}
 use Rattle.rmp_wire.specs.declared.head.Head.TheVariants.{Array, Map}
 use Rattle.rmp_wire.specs.Msg.{Msg, nil, truth, whole, float32, float64, text, bin, list, map, extension, Msgs, no_items, item, Pairs, no_pairs, pair, count, count_pairs, items_of, msgs, pairs_of, pairs}
 use Rattle.rmp_wire.specs.Spelling.{FitsAll, FitsPairs}
@@ -316,7 +315,7 @@ two_more (pair j w ps) k v = ap (λ z. item j (item w z)) (two_more ps k v)
 
 -- a map of one more pair
 module _ (n len : ℕ) (parts : Nodes) (ps : Pairs) (k v : Msg) (o : AreNodesOf parts (items_of (flat_pairs ps) ++ k ∷ v ∷ [])) (c : len ≡ count_pairs ps)
-  (e : n ≡ len + 1) where
+    (e : n ≡ len + 1) where
   many_pairs : n ≡ count_pairs (pairs (pairs_of ps ++ (k, v) ∷ []))
   many_pairs = omega (arith, c, e, longer_map ps k v)
 

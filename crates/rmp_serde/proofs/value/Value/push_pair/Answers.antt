@@ -1,4 +1,4 @@
-use Rattle.std.proofs.Common.{◌≡◌, ◌∙◌, sym, ap, subst, arith, suc, Some}
+use Rattle.std.proofs.Common.{◌∙◌, sym, ap, subst, arith, suc, Some}
 use Rattle.std.proofs.lemmas.Result.{err_from_is_err_and}
 use Rattle.rmp_wire.specs.Msg.{count_pairs}
 use Rattle.rmp_encode.specs.declared.error.Error.TheVariants.{OutOfMemory}

@@ -1,5 +1,4 @@
-use Rattle.std.proofs.Common.{◌≡◌, ◌∙◌, sym, ap, arith, ◌≤◌, ◌+◌, ◌-◌, ◌++◌, ◌∷◌, [], suc, length, append_assoc, length-append}
-use Rattle.std.specs.Prelude.{map}
+use Rattle.std.proofs.Common.{◌≡◌, ◌∙◌, ap, arith, ◌≤◌, ◌+◌, ◌-◌, ◌++◌, ◌∷◌, [], suc, length, length-append}
 use Rattle.rmp_serde.specs.Flat.{takes_then}
 use Rattle.rmp_serde.specs.Pushing.{moved}
 use Rattle.rmp_serde.proofs.FlatMade.{all_later}

@@ -1,5 +1,4 @@
-use Rattle.std.proofs.Common.{◌≡◌, ◌∙◌, subst, arith, [], ◌∷◌, ◌++◌, append_assoc}
-use Rattle.rmp_serde.specs.Pushing.{AreNodesOf}
+use Rattle.std.proofs.Common.{arith}
 use Rattle.rmp_serde.proofs.Pushing.{cut_off}
 use Rattle.rmp_serde.proofs.value.flat.Nodes.append_pair.Goals as goal
 
