@@ -32,8 +32,8 @@ pub use text::Readable;
 /// Of `let value: Value = from_slice(alloc, b"\x92\xcd\x00\x05\xc0")?` the `root()` is a list, whose `item(0)`
 /// is the number 5; `to_vec(alloc, &value)` is `92 05 c0`. `get` finds the value of a key, and `pointer` a part by a
 /// path as `/dogs/0/name`. An equal value is made by
-/// `Value::from_items(alloc, &[Value::from_u64(alloc, 5), Value::nil(alloc)])?`. `to_value` makes one of any type, and
-/// `from_value` reads the type from it.
+/// `Value::from_items(alloc, &[Value::from_u64(alloc, 5), Value::nil(alloc)])?`, and `push` and `push_pair` add to a
+/// list or a map. `to_value` makes one of any type, and `from_value` reads the type from it.
 ///
 /// Contracts see it as the message tree itself. Each length and number has room in a head (`Fits`), and each
 /// text is UTF-8.

@@ -46,20 +46,47 @@ fn each_leaf_is_made(rt: HostRuntime) -> Result<(), Fail> {
 #[test]
 fn floats_are_made_and_answered(rt: HostRuntime) -> Result<(), Fail> {
     let alloc = rt.alloc();
-    for x in [0.0, -0.0, 1.5, -0.1, 5e-324, f64::MAX, f64::INFINITY, f64::NEG_INFINITY] {
+    for x in [
+        0.0,
+        -0.0,
+        1.5,
+        -0.1,
+        5e-324,
+        f64::MAX,
+        f64::INFINITY,
+        f64::NEG_INFINITY,
+    ] {
         let made = Value::from_f64(alloc, x);
         assert_eq!(rt; made.root().as_f64_bits(), Some(x.to_bits()));
-        assert_eq!(rt; made.root().as_f64().map(|y| y.to_bits()), Some(x.to_bits()));
+        assert_eq!(rt;
+            made.root().as_f64().map(|y| y.to_bits()),
+            Some(x.to_bits())
+        );
         assert_eq!(rt; made.root().as_f32(), None);
     }
-    for x in [0.0f32, -0.0, 1.5, -0.1, 1e-45, f32::MAX, f32::INFINITY, f32::NEG_INFINITY] {
+    for x in [
+        0.0f32,
+        -0.0,
+        1.5,
+        -0.1,
+        1e-45,
+        f32::MAX,
+        f32::INFINITY,
+        f32::NEG_INFINITY,
+    ] {
         let made = Value::from_f32(alloc, x);
         assert_eq!(rt; made.root().as_f32_bits(), Some(x.to_bits()));
-        assert_eq!(rt; made.root().as_f32().map(|y| y.to_bits()), Some(x.to_bits()));
+        assert_eq!(rt;
+            made.root().as_f32().map(|y| y.to_bits()),
+            Some(x.to_bits())
+        );
         let wide = f64::from(x).to_bits();
         assert_eq!(rt; made.root().as_f64().map(|y| y.to_bits()), Some(wide));
     }
-    let (nan, small_nan) = (Value::from_f64(alloc, f64::NAN), Value::from_f32(alloc, f32::NAN));
+    let (nan, small_nan) = (
+        Value::from_f64(alloc, f64::NAN),
+        Value::from_f32(alloc, f32::NAN),
+    );
     assert_eq!(rt; nan.root().as_f64_bits(), Some(0x7ff8_0000_0000_0000));
     assert_eq!(rt; small_nan.root().as_f32_bits(), Some(0x7fc0_0000));
     assert!(rt; nan.root().as_f64().is_some_and(|x| x.is_nan()));
@@ -79,7 +106,15 @@ fn numbers_are_doubles_where_one_holds_them(rt: HostRuntime) -> Result<(), Fail>
     assert_eq!(rt; whole(-9_007_199_254_740_993), None);
     assert_eq!(rt; whole(i64::MIN), Some(-9_223_372_036_854_775_808.0));
     assert_eq!(rt; Value::from_u64(alloc, u64::MAX).root().as_f64(), None);
-    for bytes in [b"\xc0".as_slice(), b"\xc3", b"\xa11", b"\xc4\x01\x01", b"\x91\x01", b"\x80", b"\xd4\x01\x01"] {
+    for bytes in [
+        b"\xc0".as_slice(),
+        b"\xc3",
+        b"\xa11",
+        b"\xc4\x01\x01",
+        b"\x91\x01",
+        b"\x80",
+        b"\xd4\x01\x01",
+    ] {
         let value: Value = from_slice(alloc, bytes)?;
         assert_eq!(rt; value.root().as_f64(), None);
         assert_eq!(rt; value.root().as_f32(), None);
