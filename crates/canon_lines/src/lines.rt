@@ -219,7 +219,7 @@ fn refuse_hex<W: Sink>(
     }
 }
 
-/// What the bytes of a line print.
+/// What the bytes of a line print: of `run` the messages, and of `check` whether they are canonical.
 pub trait Shows {
     // these bytes print this, and this says whether nothing in them is refused
     ghost shows: { List ℕ → List ℕ → Bool → Type 0 };

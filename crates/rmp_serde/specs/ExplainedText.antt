@@ -6,11 +6,11 @@ use Rattle.std.specs.declared.io.ErrorKind.TheVariants.{UnexpectedEof}
 use Rattle.rmp_wire.specs.Faults.{fault_kind}
 use Rattle.rmp_wire.specs.declared.head.Head.{Head}
 use Rattle.rmp_wire.specs.declared.head.Head.TheVariants as heads
-use Rattle.rmp_decode.specs.Words.{words, field_of}
+use Rattle.rmp_decode.specs.Words.{words}
 use Rattle.rmp_decode.specs.declared.error.Error.{Error}
 use Rattle.rmp_decode.specs.declared.error.Error.TheVariants as errors
 use Rattle.rmp_decode.specs.declared.text.Text.TheVariants.{MissingField, DuplicateField, InvalidLength}
-use Rattle.rmp_serde.specs.Explaining.{error_in, head_in, path_in, position_in}
+use Rattle.rmp_serde.specs.Explaining.{error_in, head_in, name_in, path_in, position_in}
 use Rattle.rmp_serde.specs.Paths.{path_text, place_of, steps_of}
 use Rattle.rmp_serde.specs.Quoted.{quoted}
 use Rattle.rmp_serde.specs.declared.path.Path.{Path}
@@ -36,7 +36,7 @@ error_text errors.DepthLimitExceeded = Some (codes "depth limit exceeded")
 error_text errors.OutOfMemory = Some (codes "out of memory")
 error_text errors.NotCanonical = Some (codes "not canonical")
 
--- the name of the field that is missing
+-- the name that the error is about
 abbrev pub name_text : Option (List ℕ) → List ℕ
 name_text (Some name) = codes " " ++ quoted name
 name_text None = []
@@ -90,6 +90,6 @@ abbrev pub place_text : Explained → Option Path → List ℕ
 place_text e (Some p) = part_text (is_for_parts (error_in e)) (position_in e) (head_in e) p
 place_text e None = []
 
--- the line: the error, the name of the field that is missing, and the part
+-- the line: the error, the name that it is about, and the part
 abbrev pub explained_text : Explained → Option (List ℕ)
-explained_text e = error_text (error_in e) ++? Some (name_text (field_of (error_in e)) ++ place_text e (path_in e))
+explained_text e = error_text (error_in e) ++? Some (name_text (name_in e) ++ place_text e (path_in e))

@@ -1,5 +1,8 @@
 -- What an explained refusal says.
-use Rattle.std.specs.Prelude.{◌≡◌, ◌⊎◌, ℕ, ◌-◌, ◌≤◌, List, ◌++◌, length, drop, Option, Some, None, MatchOption}
+use Rattle.std.specs.Prelude.{◌≡◌, ◌⊎◌, ℕ, ◌-◌, ◌≤◌, List, ◌++◌, length, drop, Option, Some, None, MatchOption, IsUtf8, String}
+use Rattle.std.specs.Option.{option_map}
+use Rattle.std.specs.String.{string_bytes}
+use Rattle.std.specs.declared.alloc.Global.{Global}
 use Rattle.rmp_wire.specs.Heads.{IsHead}
 use Rattle.rmp_wire.specs.Reading.{NoHead}
 use Rattle.rmp_wire.specs.declared.head.Head.{Head}
@@ -7,6 +10,8 @@ use Rattle.rmp_wire.specs.declared.head.Head.TheVariants as heads
 use Rattle.rmp_wire.specs.declared.marker.Marker.TheVariants.{Reserved}
 use Rattle.rmp_decode.specs.declared.error.Error.{Error}
 use Rattle.rmp_decode.specs.declared.error.Error.TheVariants as errors
+use Rattle.rmp_decode.specs.declared.text.Text.TheVariants.{DuplicateField, UnknownVariant}
+use Rattle.rmp_decode.specs.Words.{field_of}
 use Rattle.rmp_path.specs.Places.{Locates, IsOutward}
 use Rattle.rmp_path.specs.declared.location.Location.{Location}
 use Rattle.rmp_serde.specs.Paths.{IsPathOf}
@@ -26,6 +31,14 @@ path_in e = e.path
 
 abbrev pub head_in : Explained → Option Head
 head_in e = e.head
+
+-- the name of a field that is missing, or else the one that was found in the message
+abbrev pub told_name : Option (List ℕ) → Option (String Global) → Option (List ℕ)
+told_name (Some name) found = Some name
+told_name None found = option_map string_bytes found
+
+abbrev pub name_in : Explained → Option (List ℕ)
+name_in e = told_name (field_of e.error) e.found
 
 -- the kind of the message that a head begins
 abbrev pub kind_begun : Head → Kind
@@ -65,20 +78,55 @@ Refuses input position levels (errors.Syntax text) found = IsInside input positi
 Refuses input position levels (errors.Utf8Error e) found = IsInside input position levels found
 Refuses input position levels errors.OutOfMemory found = IsInside input position levels found
 
--- the path to the refused part, and the head that is there
-pub record NamesPart (input : List ℕ) (position levels : ℕ) (error : Error) (h : Option Head) (p : Path) : Type 0 where
+-- the head is that of the text s, which follows it
+pub record TextFollows (h : Head) (rest s : List ℕ) : Type 0 where
+  pub more : List ℕ
+  pub is_text : h ≡ heads.Text (length s)
+  pub split : rest ≡ s ++ more
+
+-- the head and the bytes after it are those of this text, or of none that is UTF-8
+abbrev pub IsTextAfter : Head → List ℕ → Option (String Global) → Type 0
+IsTextAfter h rest (Some s) = TextFollows h rest (string_bytes s)
+IsTextAfter h rest None = (s : List ℕ) → TextFollows h rest s → IsUtf8 s → ⊥
+
+-- the bytes begin with the text s
+pub record BeginsText (s xs : List ℕ) : Type 0 where
+  pub head : List ℕ
+  pub rest : List ℕ
+  pub front : xs ≡ head ++ (s ++ rest)
+  pub is_head : IsHead (heads.Text (length s)) head
+
+-- the bytes begin with this text, or with none that is UTF-8
+abbrev pub IsTextAt : List ℕ → Option (String Global) → Type 0
+IsTextAt xs (Some s) = BeginsText (string_bytes s) xs
+IsTextAt xs None = (s : List ℕ) → BeginsText s xs → IsUtf8 s → ⊥
+
+-- the text that is the part at the last byte that was consumed, if it is one
+abbrev pub FindsText : List ℕ → ℕ → Option (String Global) → Type 0
+FindsText input position n = (inner : Location) × Locates input (position - 1) inner × IsTextAt (drop inner.place input) n
+
+-- the name in the message that the error is about: of a field that comes twice, or of a variant that is unknown
+abbrev pub FindsName : List ℕ → ℕ → Error → Option (String Global) → Type 0
+FindsName input position (errors.Syntax DuplicateField) n = FindsText input position n
+FindsName input position (errors.Syntax UnknownVariant) n = FindsText input position n
+FindsName input position e n = n ≡ None
+
+-- the path to the refused part, the head that is there, and the name that the error is about
+pub record NamesPart (input : List ℕ) (position levels : ℕ) (error : Error) (h : Option Head) (n : Option (String Global)) (p : Path) : Type 0 where
   pub found : Location
   pub refused : Refuses input position levels error found
   pub path : IsPathOf input found p
   pub head : BeginsWith (drop found.place input) h
+  pub name : FindsName input position error n
 
--- the error as it was, and the path to the refused part with the head that is there, unless memory for it was refused
+-- the error as it was, and the path to the refused part with what is there, unless memory for it was refused
 pub record Explains (input : List ℕ) (position levels : ℕ) (error : Error) (e : Explained) : Type 0 where
   pub same : e.error ≡ error
   pub at : e.position ≡ position
-  pub path : MatchOption e.path (e.head ≡ None) (NamesPart input position levels error e.head)
+  pub path : MatchOption e.path ((e.head ≡ None) × (e.found ≡ None)) (NamesPart input position levels error e.head e.found)
 
--- A read's error, explained: by where in the input the reader stopped, and some number of levels.
+-- A read's error, explained. Where the bytes end, the part is the one at their end. Otherwise it is told by a position within the input and by a
+-- number of levels, which are the reader's: no law of reads says where a failed one stopped, nor at which level.
 pub record ExplainsRead (input : List ℕ) (e : Explained) : Type 0 where
   pub within : e.position ≤ length input
   pub levels : ℕ

@@ -125,7 +125,6 @@ pub fn from_slice_canonical_explained<'de, T: RoundTrip<'de, ReadRefReader<'de>>
     ensures written { IfOk result (λ v. T.is_value v × IsSpelled (tree_of (settings_for structs) (T.data_of v false)) input.now) }
     ensures read { IfOk result (λ v. Begins IsCanonical (λ m. T.reads false true m v) 1024 input.now) }
     ensures err { IfErr result (λ e. error_in e ≢ Error.OutOfMemory → (v : T) → T.is_value v
-        → ((w : T) → T.same v w → T.data_of w false ≡ T.data_of v false)
         → LowersTo (settings_for structs) (T.data_of v false) (λ m. depth m < 1024)
         → IsSpelled (tree_of (settings_for structs) (T.data_of v false)) input.now → ⊥) }
     // It is the strict read's, or the position is that of the first difference from what is written of the value.

@@ -1,5 +1,5 @@
 //! A refusal that says where in the message it is.
-ghost use Rattle.std.specs.Prelude.{◌≡◌, ◌≢◌, ◌++◌, ◌-◌, IfOk, IfErr, codes, drop, false, true, length, Some};
+ghost use Rattle.std.specs.Prelude.{◌≡◌, ◌≢◌, ◌++◌, ◌-◌, IfOk, IfErr, MatchOption, codes, drop, false, true, length, Some, None};
 ghost use Rattle.std.specs.Fmt.{DisplaysOnOk, WritesOnOk};
 ghost use Rattle.std.specs.Option.{option_copied, option_map};
 ghost use Rattle.rmp_wire.specs.Canonical.{IsCanonical};
@@ -8,11 +8,10 @@ ghost use Rattle.rmp_wire.specs.Spelling.{Spells};
 ghost use Rattle.rmp_decode.specs.Law.{Begins, Readable};
 ghost use Rattle.rmp_decode.specs.Refusing.{slice_setting};
 ghost use Rattle.rmp_decode.specs.State.{reader_of, refused_levels};
-ghost use Rattle.rmp_decode.specs.Words.{field_of};
 ghost use Rattle.rmp_serde.specs.ExplainedText.{count_text, error_text, fault_text, head_words, is_for_parts, name_text, part_text, path_words};
-ghost use Rattle.rmp_serde.specs.Explaining.{error_in, head_in, kind_begun, path_in, position_in};
+ghost use Rattle.rmp_serde.specs.Explaining.{error_in, head_in, kind_begun, name_in, path_in, position_in};
 ghost use Rattle.rmp_serde.specs.Paths.{steps_of};
-ghost use Rattle.rmp_serde.specs.Explaining.{BeginsWith, Explains, ExplainsRead, IsInside, NamesPart, Refuses};
+ghost use Rattle.rmp_serde.specs.Explaining.{BeginsWith, Explains, ExplainsRead, FindsName, FindsText, IsInside, IsTextAfter, IsTextAt, NamesPart, Refuses};
 
 use crate::path::{Path, path_of};
 use crate::value::Kind;
@@ -21,8 +20,8 @@ use rmp_decode::{Deserialize, Deserializer, Error, Text};
 use rmp_path::{Location, locate};
 use rmp_wire::{Head, Marker, ReadRefReader, next_head};
 use std::alloc::{AllocError, Global};
-use std::fmt;
 use std::io::ErrorKind;
+use std::{fmt, str};
 
 /// A read's error, and the part of the message that was refused.
 ///
@@ -34,6 +33,8 @@ pub struct Explained {
     position: usize,
     path: Option<Path>,
     head: Option<Head>,
+    // The name in the message that the error is about, if it is about one.
+    found: Option<String>,
 }
 
 impl Explained {
@@ -44,15 +45,16 @@ impl Explained {
     pub fn new(alloc: Global, input: &[u8], position: usize, levels: u32, error: Error) -> Explained
         ensures { Explains input.now position levels error result }
     {
-        let (path, head) = match named_part(alloc, input, position, levels, &error) {
-            Ok((path, head)) => (Some(path), head),
-            Err(AllocError) => (None, None),
+        let (path, head, found) = match named_part(alloc, input, position, levels, &error) {
+            Ok((path, head, found)) => (Some(path), head, found),
+            Err(AllocError) => (None, None, None),
         };
         Explained {
             error,
             position,
             path,
             head,
+            found,
         }
     }
 
@@ -75,6 +77,38 @@ impl Explained {
         ensures { option_copied result ≡ path_in self.now }
     {
         self.path.as_ref()
+    }
+
+    /// Returns the name that the error is about: that of a field that is missing or comes twice, or of a variant that is unknown.
+    ///
+    /// It is `None` of another error, where the message has a number or bytes for the name, and where memory was refused for it. Of a
+    /// missing field it is what `Error::field` returns.
+    ///
+    /// # Examples
+    /// ```
+    /// use rmp_serde::decode::{Deserializer, Error};
+    /// use rmp_serde::explain;
+    ///
+    /// // {"id": 1, "id": 2}
+    /// let mut de = Deserializer::from_read_ref(alloc, b"\x82\xa2id\x01\xa2id\x02");
+    /// let read: Result<(u8, ()), Error> = de.deserialize_fields(&["id"]);
+    /// if let Err(error) = read {
+    ///     let refused = explain(&de, error);
+    ///     assert_eq!(rt; refused.name(), Some("id"));
+    ///     let why = format!(in alloc; "{refused}")?;
+    ///     assert_eq!(rt; why.as_str(), "duplicate field \"id\" (byte 8)");
+    /// }
+    /// ```
+    pub fn name(&self) -> Option<&str>
+        ensures { MatchOption result (name_in self.now ≡ None) (λ name. name_in self.now ≡ Some name.now) }
+    {
+        match self.error.field() {
+            Some(name) => Some(name),
+            None => match &self.found {
+                Some(name) => Some(name.as_str()),
+                None => None,
+            },
+        }
     }
 
     /// Returns how many bytes the reader had consumed.
@@ -167,19 +201,20 @@ pub fn from_slice_strict_explained<'de, T: Deserialize<'de, ReadRefReader<'de>>>
     }
 }
 
-// The path to the part that an error refuses, and the head that is there.
+// The path to the part that an error refuses, the head that is there, and the name that the error is about.
 fn named_part(
     alloc: Global,
     input: &[u8],
     position: usize,
     levels: u32,
     error: &Error,
-) -> Result<(Path, Option<Head>), AllocError>
-    ensures { IfOk result (λ part. NamesPart input.now position levels error.now part.1 part.0) }
+) -> Result<(Path, Option<Head>, Option<String>), AllocError>
+    ensures { IfOk result (λ part. NamesPart input.now position levels error.now part.1 part.2 part.0) }
 {
-    let found = refused_part(alloc, input, position, levels, error)?;
-    let head = head_at(input, found.place);
-    Ok((path_of(alloc, input, found)?, head))
+    let part = refused_part(alloc, input, position, levels, error)?;
+    let head = head_at(input, part.place);
+    let name = found_name(alloc, input, position, error)?;
+    Ok((path_of(alloc, input, part)?, head, name))
 }
 
 // The part that an error refuses. Where the message itself is broken it is the innermost one, and otherwise so many levels inside.
@@ -238,6 +273,64 @@ fn head_at(input: &[u8], place: usize) -> Option<Head>
     }
 }
 
+// The name in the message that an error is about, if it is about one that is a text.
+fn found_name(
+    alloc: Global,
+    input: &[u8],
+    position: usize,
+    error: &Error,
+) -> Result<Option<String>, AllocError>
+    ensures { IfOk result (FindsName input.now position error.now) }
+{
+    match error {
+        Error::Syntax(Text::DuplicateField) => last_text(alloc, input, position),
+        Error::Syntax(Text::UnknownVariant) => last_text(alloc, input, position),
+        _ => Ok(None),
+    }
+}
+
+// The text at the last byte that was consumed, if there is one.
+fn last_text(alloc: Global, input: &[u8], position: usize) -> Result<Option<String>, AllocError>
+    ensures { IfOk result (FindsText input.now position) }
+{
+    let inner = locate(alloc, input, position.saturating_sub(1))?;
+    text_at(alloc, bytes_from(input, inner.place))
+}
+
+// The bytes from an offset on.
+fn bytes_from(input: &[u8], offset: usize) -> &[u8]
+    ensures { result.now ≡ drop offset input.now }
+{
+    &input[offset.min(input.len())..]
+}
+
+// The text that the bytes begin with, if they begin with one that is UTF-8.
+fn text_at(alloc: Global, bytes: &[u8]) -> Result<Option<String>, AllocError>
+    ensures { IfOk result (IsTextAt bytes.now) }
+{
+    let mut rest = bytes;
+    match next_head(&mut rest) {
+        Ok((_, head)) => text_after(alloc, head, rest),
+        Err(_) => Ok(None),
+    }
+}
+
+// The same of a head, and the bytes after it.
+fn text_after(alloc: Global, head: Head, rest: &[u8]) -> Result<Option<String>, AllocError>
+    ensures { IfOk result (IsTextAfter head rest.now) }
+{
+    let Head::Text(len) = head else {
+        return Ok(None);
+    };
+    if rest.len() < len as usize {
+        return Ok(None);
+    }
+    match str::from_utf8(&rest[..len as usize]) {
+        Ok(text) => Ok(Some(String::from_str(alloc, text)?)),
+        Err(_) => Ok(None),
+    }
+}
+
 fn kind_of(head: Head) -> Kind
     ensures { result ≡ kind_begun head }
 {
@@ -276,7 +369,7 @@ impl fmt::Display for Explained {
 
     fn fmt<W: fmt::Write>(&self, f: &mut fmt::Formatter<W>) -> fmt::Result {
         write_error(f, &self.error)?;
-        write_name(f, &self.error)?;
+        write_name(f, self)?;
         match &self.path {
             Some(path) => write_part(f, self, path),
             None => Ok(()),
@@ -322,11 +415,11 @@ fn write_fault<W: fmt::Write>(f: &mut fmt::Formatter<W>, kind: ErrorKind) -> fmt
     }
 }
 
-// Writes the name of the field that is missing.
-fn write_name<W: fmt::Write>(f: &mut fmt::Formatter<W>, error: &Error) -> fmt::Result
-    ensures writes { WritesOnOk W.write_str_gives f.old result (name_text (field_of error.now)) f.new }
+// Writes the name that the error is about.
+fn write_name<W: fmt::Write>(f: &mut fmt::Formatter<W>, refused: &Explained) -> fmt::Result
+    ensures writes { WritesOnOk W.write_str_gives f.old result (name_text (name_in refused.now)) f.new }
 {
-    match error.field() {
+    match refused.name() {
         Some(name) => {
             f.write_str(" ")?;
             write_quoted(f, name)

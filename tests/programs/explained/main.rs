@@ -1,6 +1,6 @@
 //! Says where in a message a refusal is: `explained` reads lines of a request and bytes in hex.
 //!
-//! Of `read HEX` it prints the text of the error that `from_slice_explained` returns for a record, the name of the field that is missing, the place
+//! Of `read HEX` it prints the text of the error that `from_slice_explained` returns for a record, the name that it is about, the place
 //! and the path of the refused part and the line, with ` | ` between, or `read`. Of `path HEX` it prints what `path_at` returns for each offset up to the end, after a space each: the
 //! offset where the message begins, where the part begins, and the path, with `:` between, or `=` where that is as before. Of one of more than
 //! 400 bytes it prints how many, and the last 40. The exit status is 0, or 1 where the input says
@@ -23,8 +23,8 @@ fn read(alloc: Global, bytes: &[u8], said: &mut String) -> Result<(), Fault> {
         Ok(_) => return Ok(write!(said, "read")?),
         Err(refused) => refused,
     };
-    let error = refused.error();
-    write!(said, "{error} | {}", error.field().unwrap_or(""))?;
+    let name = refused.name().unwrap_or("");
+    write!(said, "{} | {name}", refused.error())?;
     match refused.path() {
         Some(path) => write!(said, " | {} | {path}", path.place())?,
         None => write!(said, " | no path")?,

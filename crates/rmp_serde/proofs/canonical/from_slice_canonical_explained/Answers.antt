@@ -8,20 +8,20 @@ use Rattle.rmp_serde.proofs.CanonicalReads.{either, otherwise, read_of, read_sam
 use Rattle.rmp_serde.proofs.canonical.from_slice_canonical_explained.Goals as goal
 
 pub returns-in-Err-clause-err : goal.returns-in-Err-clause-err
-returns-in-Err-clause-err g c = λ ne v is alike deep spelled.
+returns-in-Err-clause-err g c = λ ne v is deep spelled.
     let s = settings_for c.args.structs in
     c.in-Err.ensures.err ne (read_of (g.T.Deserialize.reads false true) g.T.RoundTrip.same s (λ x. g.T.Serialize.data_of x false) c.args.input.now
     v 1024 (c.values_come_back.ensures.read (λ _. refl) s v is) deep spelled)
 
 pub returns-in-Err-if_written-clause-err : goal.returns-in-Err-if_written-clause-err
-returns-in-Err-if_written-clause-err g c = λ ne v is alike deep spelled.
+returns-in-Err-if_written-clause-err g c = λ ne v is deep spelled.
     let s = settings_for c.args.structs in
     let w = c.in-Ok.value in
     let t = tree_of s (g.T.Serialize.data_of w false) in
     written_else (g.T.Deserialize.reads false true) g.T.RoundTrip.same s (λ x. g.T.Serialize.data_of x false) c.args.input.now
     (λ b. b.items) v w c.write_as-written.result
-    (alike w (read_same (g.T.Deserialize.reads false true) g.T.RoundTrip.same s (λ x. g.T.Serialize.data_of x false) c.args.input.now
-    v w 1024 (c.values_come_back.ensures.only s v is) spelled c.in-Ok.ensures.ok)) spelled
+    (sym (c.values_come_back.ensures.alike false v w (read_same (g.T.Deserialize.reads false true) g.T.RoundTrip.same s (λ x. g.T.Serialize.data_of x false)
+    c.args.input.now v w 1024 (c.values_come_back.ensures.only s v is) spelled c.in-Ok.ensures.ok))) spelled
     (either (λ b. IsSpelled t b.items) (ToVecFails t) c.write_as-written.result c.write_as-written.ensures.bytes c.write_as-written.ensures.err)
     (c.in-Err-if_written.ensures.err (λ q. ne (c.new.ensures.same ∙ q)))
 
