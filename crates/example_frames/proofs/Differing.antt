@@ -1,5 +1,6 @@
 -- Frames are distinct: two that begin the same bytes have the same content.
 use Rattle.std.specs.Prelude.{[], ◌++◌, ◌<◌, ◌^◌, length, take, drop, IsSomeAnd}
+use Rattle.rmp_decode.specs.Refusing.{Refusals, Setting}
 use Rattle.rmp_decode.specs.State.{limit_at}
 use Rattle.std.proofs.Common.{◌≡◌, ◌≢◌, ◌∙◌, ◌-◌, max, ℕ, List, Option, Some, refl, sym, ap, subst, arith, append_assoc}
 use Rattle.rmp_encode.specs.Calls.{IsSpelled, ToVecFails}
@@ -58,12 +59,12 @@ asks_that r P more body fits e a =
     (subst P p.1 a.holds, p.2)
 
 -- what is in a frame that was written isn't wrong
-pub never_wrong : (reads : Msg → Request → Type 0) (r : Request) (body : List ℕ) (e : Refusal) → Fits (message_of r) → body ≡ canon (message_of r)
-    → depth (message_of r) < 16 → reads (message_of r) r → e ≢ NotRequest OutOfMemory → WrongFor reads body e → ⊥
-never_wrong reads r body Cut fits b deep it ne w = w
-never_wrong reads r body (TooLong n) fits b deep it ne w = w
-never_wrong reads r body (NotRequest e) fits b deep it ne w =
-    w (λ is. ne (ap NotRequest is)) (record {
+pub never_wrong : (reads : Msg → Request → Type 0) (refuses : Setting → Refusals) (r : Request) (body : List ℕ) (e : Refusal) → Fits (message_of r)
+    → body ≡ canon (message_of r) → depth (message_of r) < 16 → reads (message_of r) r → e ≢ NotRequest OutOfMemory → WrongFor reads refuses body e → ⊥
+never_wrong reads refuses r body Cut fits b deep it ne w = w
+never_wrong reads refuses r body (TooLong n) fits b deep it ne w = w
+never_wrong reads refuses r body (NotRequest e) fits b deep it ne w =
+    w.none (λ is. ne (ap NotRequest is)) (record {
       bytes = canon (message_of r);
       rest = [];
       tree = message_of r;
@@ -72,7 +73,7 @@ never_wrong reads r body (NotRequest e) fits b deep it ne w =
       fits = deep;
       holds = (r, it);
     })
-never_wrong reads r body Longer fits b deep it ne (more, some, asks) = some (asks_that r (Readable reads) more body fits b asks).1
+never_wrong reads refuses r body Longer fits b deep it ne (more, some, asks) = some (asks_that r (Readable reads) more body fits b asks).1
 
 -- how deep a new reader reads whose limit was set
 pub deep_enough : (room limit : ℕ) → max 1 room ≡ 1024 → limit ≡ 1024 → max 1 (limit_at 16 - (limit - room)) ≡ 16

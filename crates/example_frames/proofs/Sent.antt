@@ -7,7 +7,7 @@ use Rattle.rmp_wire.specs.Spelling.{canon, Fits, Spells}
 use Rattle.rmp_wire.proofs.Spellings.{canon_spells}
 use Rattle.rmp_wire.proofs.Unique.{spelled_once}
 use Rattle.rmp_encode.specs.Calls.{IsSpelled}
-use Rattle.rmp_decode.specs.Law.{Begins, Readable}
+use Rattle.rmp_decode.specs.Refusing.{Refusals, Setting}
 use Rattle.rmp_decode.specs.declared.error.Error.{Error}
 use Rattle.rmp_decode.specs.declared.error.Error.TheVariants as errors
 use Rattle.rmp_decode.specs.declared.error.Error.TheVariants.{OutOfMemory}
@@ -20,7 +20,7 @@ use Rattle.rmp_serde.specs.Read.{AllTextsUtf8}
 use Rattle.example_frames.specs.declared.request.Request.{Request}
 use Rattle.example_frames.specs.declared.stream.StreamRefusal.{StreamRefusal}
 use Rattle.example_frames.specs.declared.stream.StreamRefusal.TheVariants.{Reserved, TooLong, NotRequest, Closed}
-use Rattle.example_frames.specs.Frames.{message_of, Asks}
+use Rattle.example_frames.specs.Frames.{message_of, request_setting, Asks, NoneFor}
 use Rattle.example_frames.specs.Streams.{IsSent, TakenFrom, IsOther, StopsStream, refusal_for}
 
 -- ---- the bytes that a scanner ends
@@ -31,11 +31,14 @@ module _ (before piece body : List ℕ) (used : ℕ) (l : used ≤ length piece)
   split = ap (λ z. before ++ z) (sym (take-append-drop used piece)) ∙ sym (append_assoc before (take used piece) (drop used piece))
       ∙ ap (λ z. z ++ drop used piece) (sym e)
 
-  is_message : IsMessage body
-  is_message =
+  is_body : body ≡ m.bytes
+  is_body =
       let n = m.long in
       let long : length body ≡ length m.bytes = omega (arith, n, ap length e, length-append before (take used piece), length-take-le used piece l) in
-      subst IsMessage (sym (same_front body m.bytes (drop used piece) m.rest long (sym split ∙ m.front)).0) m.spelled
+      (same_front body m.bytes (drop used piece) m.rest long (sym split ∙ m.front)).0
+
+  is_message : IsMessage body
+  is_message = subst IsMessage (sym is_body) m.spelled
 
   pub taken_from : {V : Type 0} (reads : Msg → V → Type 0) (limit : ℕ) (r : V) (more rest : List ℕ) → length before + used ≤ limit
       → rest ≡ drop used piece → Asks (λ t. reads t r) more body → TakenFrom reads limit r rest (before ++ piece)
@@ -63,14 +66,15 @@ module _ (before piece body : List ℕ) (used : ℕ) (l : used ≤ length piece)
         );
       }
 
-  pub is_other : {V : Type 0} (reads : Msg → V → Type 0) → (Begins Spells (Readable reads) 16 body → ⊥) → IsOther reads (before ++ piece)
-  is_other reads none = record {
+  pub is_other : {V : Type 0} (reads : Msg → V → Type 0) (refuses : Setting → Refusals) (x : Error) → x ≢ OutOfMemory → NoneFor reads refuses body x
+      → IsOther reads refuses (before ++ piece) x
+  is_other reads refuses x ne w = record {
     len = length before + used;
     ends = m;
     none = λ b.
         let k = is_message in
         let p = spelled_once b.tree k.0 b.bytes body b.rest (drop used piece) b.spelled k.1 (sym b.front ∙ split) in
-        none (record {
+        w.none ne (record {
           bytes = b.bytes;
           rest = [];
           tree = b.tree;
@@ -79,6 +83,7 @@ module _ (before piece body : List ℕ) (used : ℕ) (l : used ≤ length piece)
           fits = b.fits;
           holds = b.holds;
         });
+    refused = subst (λ z. refuses request_setting 0 0 (Some z) x) is_body w.refused;
   }
 
   pub is_uncut : IsBeginning body → ⊥
@@ -94,7 +99,7 @@ sent_back asked P bytes rest more xs s e a =
     (sym a.is ∙ e ∙ ap (λ z. z ++ rest) s.is) in
     (subst P p.1 a.holds, p.2)
 
-module _ (reads : Msg → Request → Type 0) (limit : ℕ) (xs : List ℕ) (asked : Request) (bytes rest later : List ℕ) (s : IsSent asked bytes)
+module _ (reads : Msg → Request → Type 0) (refuses : Setting → Refusals) (limit : ℕ) (xs : List ℕ) (asked : Request) (bytes rest later : List ℕ) (s : IsSent asked bytes)
     (e : xs ++ later ≡ bytes ++ rest) (short : length bytes ≤ limit) (deep : depth (message_of asked) < 16) (it : reads (message_of asked) asked) where
   spelled : Spells bytes (message_of asked)
   spelled = subst (λ z. Spells z (message_of asked)) (sym s.is) (canon_spells (message_of asked) s.fits)
@@ -108,7 +113,7 @@ module _ (reads : Msg → Request → Type 0) (limit : ℕ) (xs : List ℕ) (ask
       w.begins (record { rest = c ∷ q; some = λ z. absurd (cc); spelled = (message_of asked, subst (λ z. Spells z (message_of asked)) f spelled) })
 
   -- and isn't refused
-  pub never_stops : (r : StreamRefusal) → r ≢ NotRequest OutOfMemory → StopsStream reads limit xs r → ⊥
+  pub never_stops : (r : StreamRefusal) → r ≢ NotRequest OutOfMemory → StopsStream reads refuses limit xs r → ⊥
   never_stops Reserved ne w = elim (beginnings xs later bytes rest e) [
     | inl p ↦ w.ends (length bytes) (ends_in p.0 p.1)
     | inr p ↦ never_reserved p.0 p.1 w
@@ -145,20 +150,20 @@ is_sent r t bytes e s texts =
     record { fits = subst Fits m s.fits; texts = texts; is = s.canonical ∙ ap canon m }
 
 -- why a scanner stops
-scan_stops : (reads : Msg → Request → Type 0) (before piece : List ℕ) (limit : ℕ) (new : Scanner) (e : Error) → Scans before piece limit new (Err e)
-    → StopsStream reads limit (before ++ piece) (refusal_for e)
-scan_stops reads before piece limit new (errors.TypeMismatch m) s = s.1.none
-scan_stops reads before piece limit new (errors.Syntax t) s = s.1.longer
-scan_stops reads before piece limit new (errors.InvalidMarkerRead x) s = s
-scan_stops reads before piece limit new (errors.InvalidDataRead x) s = s
-scan_stops reads before piece limit new errors.OutOfRange s = s
-scan_stops reads before piece limit new (errors.LengthMismatch n) s = s
-scan_stops reads before piece limit new (errors.Uncategorized n) s = s
-scan_stops reads before piece limit new (errors.Utf8Error n) s = s
-scan_stops reads before piece limit new errors.DepthLimitExceeded s = s
-scan_stops reads before piece limit new errors.OutOfMemory s = s
-scan_stops reads before piece limit new errors.NotCanonical s = s
+scan_stops : (reads : Msg → Request → Type 0) (refuses : Setting → Refusals) (before piece : List ℕ) (limit : ℕ) (new : Scanner) (e : Error) → Scans before piece limit new (Err e)
+    → StopsStream reads refuses limit (before ++ piece) (refusal_for e)
+scan_stops reads refuses before piece limit new (errors.TypeMismatch m) s = s.1.none
+scan_stops reads refuses before piece limit new (errors.Syntax t) s = s.1.longer
+scan_stops reads refuses before piece limit new (errors.InvalidMarkerRead x) s = s
+scan_stops reads refuses before piece limit new (errors.InvalidDataRead x) s = s
+scan_stops reads refuses before piece limit new errors.OutOfRange s = s
+scan_stops reads refuses before piece limit new (errors.LengthMismatch n) s = s
+scan_stops reads refuses before piece limit new (errors.Uncategorized n) s = s
+scan_stops reads refuses before piece limit new (errors.Utf8Error n) s = s
+scan_stops reads refuses before piece limit new errors.DepthLimitExceeded s = s
+scan_stops reads refuses before piece limit new errors.OutOfMemory s = s
+scan_stops reads refuses before piece limit new errors.NotCanonical s = s
 
-pub stops_as : (reads : Msg → Request → Type 0) (before piece : List ℕ) (limit : ℕ) (new : Scanner) (e : Error) (r : StreamRefusal) → r ≡ refusal_for e
-    → Scans before piece limit new (Err e) → StopsStream reads limit (before ++ piece) r
-stops_as reads before piece limit new e r q s = subst (λ z. StopsStream reads limit (before ++ piece) z) (sym q) (scan_stops reads before piece limit new e s)
+pub stops_as : (reads : Msg → Request → Type 0) (refuses : Setting → Refusals) (before piece : List ℕ) (limit : ℕ) (new : Scanner) (e : Error) (r : StreamRefusal) → r ≡ refusal_for e
+    → Scans before piece limit new (Err e) → StopsStream reads refuses limit (before ++ piece) r
+stops_as reads refuses before piece limit new e r q s = subst (λ z. StopsStream reads refuses limit (before ++ piece) z) (sym q) (scan_stops reads refuses before piece limit new e s)

@@ -1,9 +1,10 @@
 -- What a peer's bytes are, and why they are refused.
-use Rattle.std.specs.Prelude.{◌≡◌, ◌≢◌, ℕ, ◌<◌, ◌≤◌, ◌^◌, ◌⊎◌, pos, List, [], ◌++◌, length, codes}
+use Rattle.std.specs.Prelude.{◌≡◌, ◌≢◌, ℕ, ◌<◌, ◌≤◌, ◌^◌, ◌⊎◌, pos, true, false, List, [], ◌++◌, length, codes, Some}
 use Rattle.std.specs.Int.{w32, to_be_bytes}
 use Rattle.rmp_wire.specs.Msg.{Msg, whole, text, list, map, no_items, item, no_pairs, pair, depth}
 use Rattle.rmp_wire.specs.Spelling.{canon, Fits, Spells}
 use Rattle.rmp_decode.specs.Law.{Begins, Readable}
+use Rattle.rmp_decode.specs.Refusing.{Refusals, Setting}
 use Rattle.rmp_decode.specs.declared.error.Error.{Error}
 use Rattle.rmp_decode.specs.declared.error.Error.TheVariants.{OutOfMemory}
 use Rattle.rmp_serde.specs.Read.{AllTextsUtf8}
@@ -59,17 +60,24 @@ StopsFor limit bytes (TooLong n) = (rest : List ℕ) × SaysLength n rest bytes 
 StopsFor limit bytes (NotRequest e) = ⊥
 StopsFor limit bytes Longer = ⊥
 
--- unless memory ran out, no prefix of the bytes encodes a message that nests below 16 and is read as a request
-abbrev pub NoneFor : {V : Type 0} → (Msg → V → Type 0) → List ℕ → Error → Type 0
-NoneFor reads bytes e = e ≢ OutOfMemory → Begins Spells (Readable reads) 16 bytes → ⊥
+-- of the read of a request: it is from a slice, in any widths, and a request nests below 16
+abbrev pub request_setting : Setting
+request_setting = record { human = false; lends = true; strict = false; room = 16 }
+
+-- The error is the one that the read of a request from these bytes answers. Unless memory ran out, no prefix of them encodes a message that nests below
+-- 16 and is read as a request.
+pub record NoneFor {V : Type 0} (reads : Msg → V → Type 0) (refuses : Setting → Refusals) (bytes : List ℕ) (e : Error) : Type 0 where
+  pub none : e ≢ OutOfMemory → Begins Spells (Readable reads) 16 bytes → ⊥
+  pub refused : refuses request_setting 0 0 (Some bytes) e
 
 -- why the content of a frame isn't a request
-abbrev pub WrongFor : {V : Type 0} → (Msg → V → Type 0) → List ℕ → Refusal → Type 0
-WrongFor reads body Cut = ⊥
-WrongFor reads body (TooLong n) = ⊥
-WrongFor reads body (NotRequest e) = NoneFor reads body e
-WrongFor reads body Longer = (more : List ℕ) × (more ≢ []) × Asks (Readable reads) more body
+abbrev pub WrongFor : {V : Type 0} → (Msg → V → Type 0) → (Setting → Refusals) → List ℕ → Refusal → Type 0
+WrongFor reads refuses body Cut = ⊥
+WrongFor reads refuses body (TooLong n) = ⊥
+WrongFor reads refuses body (NotRequest e) = NoneFor reads refuses body e
+WrongFor reads refuses body Longer = (more : List ℕ) × (more ≢ []) × Asks (Readable reads) more body
 
 -- Why the bytes are refused: the content of a frame past the limit isn't looked at.
-abbrev pub RefusedFor : {V : Type 0} → (Msg → V → Type 0) → ℕ → List ℕ → Refusal → Type 0
-RefusedFor reads limit bytes e = StopsFor limit bytes e ⊎ ((rest : List ℕ) × Framed limit (λ body. WrongFor reads body e) rest bytes)
+abbrev pub RefusedFor : {V : Type 0} → (Msg → V → Type 0) → (Setting → Refusals) → ℕ → List ℕ → Refusal → Type 0
+RefusedFor reads refuses limit bytes e =
+    StopsFor limit bytes e ⊎ ((rest : List ℕ) × Framed limit (λ body. WrongFor reads refuses body e) rest bytes)

@@ -1,9 +1,10 @@
 -- Requests one after another, with no lengths between them.
-use Rattle.std.specs.Prelude.{◌≡◌, ◌≢◌, ℕ, ◌+◌, ◌≤◌, List, length, true, false}
+use Rattle.std.specs.Prelude.{◌≡◌, ◌≢◌, ℕ, ◌+◌, ◌≤◌, List, length, true, false, Some}
 use Rattle.rmp_wire.specs.Msg.{Msg}
 use Rattle.rmp_wire.specs.Spelling.{canon, Fits, Spells}
 use Rattle.rmp_decode.specs.Exact.{IsEnd}
 use Rattle.rmp_decode.specs.Law.{Begins, Readable}
+use Rattle.rmp_decode.specs.Refusing.{Refusals, Setting}
 use Rattle.rmp_decode.specs.declared.error.Error.{Error}
 use Rattle.rmp_decode.specs.declared.error.Error.TheVariants as errors
 use Rattle.rmp_decode.specs.declared.error.Error.TheVariants.{OutOfMemory}
@@ -13,7 +14,7 @@ use Rattle.example_frames.specs.declared.request.Request.{Request}
 use Rattle.example_frames.specs.declared.stream.Incoming.{Incoming}
 use Rattle.example_frames.specs.declared.stream.StreamRefusal.{StreamRefusal}
 use Rattle.example_frames.specs.declared.stream.StreamRefusal.TheVariants.{Reserved, TooLong, NotRequest, Closed}
-use Rattle.example_frames.specs.Frames.{message_of, Asks}
+use Rattle.example_frames.specs.Frames.{message_of, request_setting, Asks}
 
 -- what has come of a request
 abbrev pub held : Incoming → List ℕ
@@ -42,18 +43,19 @@ pub record TakenFrom {V : Type 0} (reads : Msg → V → Type 0) (limit : ℕ) (
   pub asks : Asks (λ m. reads m r) rest bytes
   pub within : length bytes ≤ limit + length rest
 
--- a message ends in the bytes, and they begin with no request
-pub record IsOther {V : Type 0} (reads : Msg → V → Type 0) (bytes : List ℕ) : Type 0 where
+-- a message ends in the bytes, they begin with no request, and the error is the one that the read of a request from the message answers
+pub record IsOther {V : Type 0} (reads : Msg → V → Type 0) (refuses : Setting → Refusals) (bytes : List ℕ) (e : Error) : Type 0 where
   pub len : ℕ
   pub ends : MessageEnds bytes len
   pub none : Begins Spells (Readable reads) 16 bytes → ⊥
+  pub refused : refuses request_setting 0 0 (Some ends.bytes) e
 
 -- why the bytes are refused
-abbrev pub StopsStream : {V : Type 0} → (Msg → V → Type 0) → ℕ → List ℕ → StreamRefusal → Type 0
-StopsStream reads limit bytes Reserved = NoMessage bytes
-StopsStream reads limit bytes TooLong = IsLonger limit bytes
-StopsStream reads limit bytes (NotRequest e) = e ≢ OutOfMemory → IsOther reads bytes
-StopsStream reads limit bytes Closed = ⊥
+abbrev pub StopsStream : {V : Type 0} → (Msg → V → Type 0) → (Setting → Refusals) → ℕ → List ℕ → StreamRefusal → Type 0
+StopsStream reads refuses limit bytes Reserved = NoMessage bytes
+StopsStream reads refuses limit bytes TooLong = IsLonger limit bytes
+StopsStream reads refuses limit bytes (NotRequest e) = e ≢ OutOfMemory → IsOther reads refuses bytes e
+StopsStream reads refuses limit bytes Closed = ⊥
 
 -- the reason isn't that the bytes ended inside of a message
 abbrev pub IsUncut : StreamRefusal → Type 0

@@ -80,7 +80,8 @@ pub fn next_request<'de>(
     ensures back { IfOk result (λ r. (asked : Request) (frame rest : List ℕ) → IsFrame asked frame → bytes.now ≡ frame ++ rest
         → (r.0 ≡ asked) × (r.1.now ≡ rest)) }
     // Each refusal has its reason,
-    ensures refused { IfErr result (RefusedFor (⟦<Request as Deserialize<'de, ReadRefReader<'de>>>⟧.reads false true) limit bytes.now) }
+    ensures refused { IfErr result (RefusedFor (⟦<Request as Deserialize<'de, ReadRefReader<'de>>>⟧.reads false true)
+        ⟦<Request as Deserialize<'de, ReadRefReader<'de>>>⟧.refuses limit bytes.now) }
     // and what a peer wrote within the limits is refused only out of memory.
     ensures whole { IfErr result (λ e. e ≢ refusal.NotRequest OutOfMemory → (asked : Request) (frame rest : List ℕ) → IsFrame asked frame
         → bytes.now ≡ frame ++ rest → length frame ≤ 4 + limit → depth (message_of asked) < 16 → ⊥) }
@@ -102,7 +103,8 @@ pub fn explain_request<'de>(alloc: Global, content: &'de [u8]) -> Option<Explain
     // The line names the part that is wrong,
     ensures explained { IfSome result (ExplainsRead content.now) }
     // and no request begins there, or memory ran out.
-    ensures some { IfSome result (λ e. NoneFor (⟦<Request as Deserialize<'de, ReadRefReader<'de>>>⟧.reads false true) content.now (error_in e)) }
+    ensures some { IfSome result (λ e. NoneFor (⟦<Request as Deserialize<'de, ReadRefReader<'de>>>⟧.reads false true)
+        ⟦<Request as Deserialize<'de, ReadRefReader<'de>>>⟧.refuses content.now (error_in e)) }
     ensures none { result ≡ None → Begins Spells (Readable (⟦<Request as Deserialize<'de, ReadRefReader<'de>>>⟧.reads false true)) 16 content.now }
 {
     let mut de = Deserializer::from_read_ref(alloc, content);
@@ -147,7 +149,8 @@ fn next_frame<'de>(bytes: &'de [u8], limit: u32) -> Result<(&'de [u8], &'de [u8]
 // Reads the request that is all of a frame's content.
 fn request_in<'de>(alloc: Global, body: &'de [u8]) -> Result<Request, Refusal>
     ensures ok { IfOk result (λ r. Asks (λ m. ⟦<Request as Deserialize<'de, ReadRefReader<'de>>>⟧.reads false true m r) [] body.now) }
-    ensures err { IfErr result (WrongFor (⟦<Request as Deserialize<'de, ReadRefReader<'de>>>⟧.reads false true) body.now) }
+    ensures err { IfErr result (WrongFor (⟦<Request as Deserialize<'de, ReadRefReader<'de>>>⟧.reads false true)
+        ⟦<Request as Deserialize<'de, ReadRefReader<'de>>>⟧.refuses body.now) }
 {
     match first_request(alloc, body) {
         Ok((request, rest)) => {
@@ -167,7 +170,8 @@ pub(crate) fn first_request<'de>(
     bytes: &'de [u8],
 ) -> Result<(Request, &'de [u8]), Error>
     ensures ok { IfOk result (λ r. Asks (λ m. ⟦<Request as Deserialize<'de, ReadRefReader<'de>>>⟧.reads false true m r.0) r.1.now bytes.now) }
-    ensures err { IfErr result (NoneFor (⟦<Request as Deserialize<'de, ReadRefReader<'de>>>⟧.reads false true) bytes.now) }
+    ensures err { IfErr result (NoneFor (⟦<Request as Deserialize<'de, ReadRefReader<'de>>>⟧.reads false true)
+        ⟦<Request as Deserialize<'de, ReadRefReader<'de>>>⟧.refuses bytes.now) }
     // An error whose `is_incomplete` is true says that more bytes may complete a message.
     ensures incomplete { IfErr result (λ e. IsEnd e → IsBeginning bytes.now) }
 {

@@ -96,7 +96,7 @@ impl Incoming {
             × IsBeginning (held self.new) × (length (held self.new) ≤ limit_in self.old) }
         // Each refusal has its reason,
         ensures refused { IsOpen self.old → IfErr result (StopsStream (⟦<Request as Deserialize<'a, ReadRefReader<'a>>>⟧.reads false true)
-            (limit_in self.old) (held self.old ++ piece.now)) }
+            ⟦<Request as Deserialize<'a, ReadRefReader<'a>>>⟧.refuses (limit_in self.old) (held self.old ++ piece.now)) }
         // and what a peer wrote within the limits is refused only out of memory, however much of it has come.
         ensures whole { IsOpen self.old → IfErr result (λ e. e ≢ refusal.NotRequest OutOfMemory → (asked : Request) (bytes rest later : List ℕ)
             → IsSent asked bytes → (held self.old ++ piece.now) ++ later ≡ bytes ++ rest → length bytes ≤ limit_in self.old

@@ -87,9 +87,9 @@ held t st bytes it h = restored h.scanner t st bytes h.is it h.after
 
 -- ---- what each answer says
 
--- a scanner keeps its bytes in the state
+-- a scanner is kept in the state
 abbrev pub Keeps : Scanner → State → Type 0
-Keeps s st = (bytes : List ℕ) → IsAfter bytes s → limit_of s < 2 ^ 64 → length bytes + least_of s.want < 2 ^ 64 → Holds bytes st
+Keeps s st = (bytes : List ℕ) → IsAfter bytes s → limit_of s < 2 ^ 64 → length bytes + least_of s.want < 2 ^ 64 → IsStateOf s st
 
 pub whole_law : (before piece : List ℕ) (limit old n : ℕ) (new : Scanner) (st : State) → limit < 2 ^ 64 → old ≡ limit → limit_of new ≡ old
     → scan.Scans before piece old new (Ok (Whole n)) → Keeps new st → Scans before piece limit st n 0
@@ -99,7 +99,7 @@ whole_law before piece limit old n new st room e same s keep =
       ends = λ z. record {
         ends = s.ends;
         short = subst (λ l. length before + n ≤ l) e s.short;
-        holds = keep [] a (omega (arith, room, e, same)) (omega (arith, b));
+        holds = record { scanner = new; is = keep [] a (omega (arith, room, e, same)) (omega (arith, b)); after = a };
       };
       goes_on = λ z. absurd (omega (arith, z));
       reserved = λ z. absurd (omega (arith, z));
@@ -112,7 +112,15 @@ pub more_law : (before piece : List ℕ) (limit old used : ℕ) (new : Scanner) 
 more_law before piece limit old used new st room e same s keep =
     let b = s.short in record {
       ends = λ z. absurd (omega (arith, z));
-      goes_on = λ z. record { begins = s.begins; holds = keep (before ++ piece) s.after (omega (arith, room, e, same)) (omega (arith, b, e, room)) };
+      goes_on = λ z. record {
+        begins = s.begins;
+        holds = record {
+          scanner = new;
+          is = keep (before ++ piece) s.after (omega (arith, room, e, same)) (omega (arith, b, e, room));
+          after = s.after;
+        };
+        short = subst (λ l. length (before ++ piece) + least_of new.want ≤ l) e b;
+      };
       reserved = λ z. absurd (omega (arith, z));
       longer = λ z. absurd (omega (arith, z));
       known = inr (inl refl);

@@ -2,6 +2,7 @@
 use Rattle.std.specs.Prelude.{◌≡◌, ◌⊎◌, ℕ, List, [], ◌+◌, ◌≤◌, ◌++◌, length, Bool, true, false}
 use Rattle.rmp_decode.specs.declared.error.Error.{Error}
 use Rattle.rmp_decode.specs.declared.error.Error.TheVariants.{Syntax}
+use Rattle.rmp_scan.specs.Completes.{least_of}
 use Rattle.rmp_scan.specs.Scans.{MessageEnds, IsBeginning, NoMessage, ReservedAt, IsLonger}
 use Rattle.rmp_scan.specs.States.{Holds}
 use Rattle.rmp_scan.specs.declared.state.State.{State}
@@ -12,10 +13,11 @@ pub record Ends (before piece : List ℕ) (limit : ℕ) (new : State) (used : �
   pub short : length before + used ≤ limit
   pub holds : Holds [] new
 
--- the message goes on after the piece
-pub record GoesOn (before piece : List ℕ) (new : State) : Type 0 where
+-- the message goes on after the piece, and what has come of it and what it still wants at least are within the limit
+pub record GoesOn (before piece : List ℕ) (limit : ℕ) (new : State) : Type 0 where
   pub begins : IsBeginning (before ++ piece)
   pub holds : Holds (before ++ piece) new
+  pub short : length (before ++ piece) + least_of holds.scanner.want ≤ limit
 
 -- the byte c1 is at this offset of the piece where a message is wanted
 pub record IsReserved (before piece : List ℕ) (used : ℕ) : Type 0 where
@@ -25,7 +27,7 @@ pub record IsReserved (before piece : List ℕ) (used : ℕ) : Type 0 where
 -- what a status says, by the bytes that the scanner had before the piece
 pub record Scans (before piece : List ℕ) (limit : ℕ) (new : State) (used status : ℕ) : Type 0 where
   pub ends : status ≡ 0 → Ends before piece limit new used
-  pub goes_on : status ≡ 10 → GoesOn before piece new
+  pub goes_on : status ≡ 10 → GoesOn before piece limit new
   pub reserved : status ≡ 3 → IsReserved before piece used
   pub longer : status ≡ 11 → IsLonger limit (before ++ piece)
   pub known : (status ≡ 0) ⊎ ((status ≡ 10) ⊎ ((status ≡ 3) ⊎ (status ≡ 11)))

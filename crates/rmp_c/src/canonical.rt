@@ -1,6 +1,6 @@
 //! The canonical encoding of a message.
-ghost use Rattle.std.specs.Prelude.{◌≡◌, ◌≢◌, ◌<◌, ℕ, List, IfOk, IfErr, length};
-ghost use Rattle.rmp_c.specs.Respelled.{Respelled, WritesInto, HasMore, NoValue};
+ghost use Rattle.std.specs.Prelude.{◌≡◌, ◌≢◌, ◌<◌, ◌⊎◌, ℕ, List, IfOk, IfErr, length};
+ghost use Rattle.rmp_c.specs.Respelled.{Respelled, WritesInto, HasMore, HasNoRoom, NoValue, SaysWhy};
 
 use crate::check::status_of;
 use rmp_serde::{Deserializer, Value, laws, to_vec};
@@ -22,6 +22,8 @@ pub extern "C" fn rmp_canonical(alloc: Global, bytes: &[u8], out: &mut [u8], len
     ensures longer { result ≡ 7 → HasMore bytes.now }
     // or memory ran out, or the bytes begin with no message that nests below 1024 and whose texts are UTF-8.
     ensures refused { result ≢ 0 → result ≢ 7 → result ≢ 8 → result ≢ 9 → NoValue bytes.now }
+    // Which status it is says what is wrong first, and where.
+    ensures refusal { result ≢ 0 → result ≢ 7 → result ≢ 8 → SaysWhy bytes.now result ⊎ HasNoRoom bytes.now result }
     ensures room { length out.new ≡ length out.old }
     // What isn't set doesn't change.
     ensures kept { result ≢ 0 → out.new ≡ out.old }
@@ -47,6 +49,7 @@ fn spelled_again(alloc: Global, bytes: &[u8]) -> Result<Vec<u8>, u32>
     ensures err { IfErr result (λ status. (status ≢ 0) × (status ≢ 8)) }
     ensures longer { IfErr result (λ status. status ≡ 7 → HasMore bytes.now) }
     ensures refused { IfErr result (λ status. status ≢ 7 → status ≢ 9 → NoValue bytes.now) }
+    ensures refusal { IfErr result (λ status. status ≢ 7 → SaysWhy bytes.now status ⊎ HasNoRoom bytes.now status) }
 {
     let mut de = Deserializer::from_read_ref(alloc, bytes);
     let value = match Value::read(&mut de) {

@@ -82,8 +82,8 @@ fn restore(state: State) -> Option<Scanner>
 
 // Keeps what the scanner keeps.
 fn keep(scanner: &Scanner, state: &mut State)
-    ensures holds { (bytes : List ℕ) → IsAfter bytes scanner.now → limit_of scanner.now < 2 ^ 64
-        → length bytes + least_of scanner.now.want < 2 ^ 64 → Holds bytes state.new }
+    ensures is { (bytes : List ℕ) → IsAfter bytes scanner.now → limit_of scanner.now < 2 ^ 64
+        → length bytes + least_of scanner.now.want < 2 ^ 64 → IsStateOf scanner.now state.new }
     ensures limit { limit_of scanner.now ≡ state.old.limit → state.new.limit ≡ state.old.limit }
 {
     if let Some(next) = scanner.state() {

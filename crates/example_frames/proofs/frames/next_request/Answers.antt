@@ -12,5 +12,5 @@ returns-in-Ok-request_in-clause-back c = λ asked frame rest f e.
 pub returns-in-Err-request_in-clause-whole : goal.returns-in-Err-request_in-clause-whole
 returns-in-Err-request_in-clause-whole c = λ ne asked frame rest f e within deep.
     let same = same_frame asked frame rest c.args.bytes.now c.in-Ok.parts.0.now c.in-Ok.parts.1.now f e c.in-Ok.ensures.ok.0 in
-    never_wrong _ asked c.in-Ok.parts.0.now c.in-Err-request_in.e f.fits same.0 deep (c.read_as.ensures.reads asked f.fits f.texts) ne
+    never_wrong _ _ asked c.in-Ok.parts.0.now c.in-Err-request_in.e f.fits same.0 deep (c.read_as.ensures.reads asked f.fits f.texts) ne
     c.in-Err-request_in.ensures.err

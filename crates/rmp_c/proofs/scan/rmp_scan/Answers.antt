@@ -9,7 +9,7 @@ returns-in-Ok-Whole-clause-law c = λ before h.
     let a = held c.in-Some.scanner c.args.state.now before is h in
     whole_law before c.args.piece.now c.args.state.now.limit c.in-Some.scanner.limit c.in-Ok-Whole.n c.scan.new.self _
     (let r = c.in-Some.ensures.range in let l = is.limit in omega (arith, r, l)) is.limit
-    c.in-Ok-Whole.ensures.limit (rw c.in-Ok-Whole.field-0-is at (c.in-Ok-Whole.ensures.law before a)) c.keep.ensures.holds
+    c.in-Ok-Whole.ensures.limit (rw c.in-Ok-Whole.field-0-is at (c.in-Ok-Whole.ensures.law before a)) c.keep.ensures.is
 
 pub returns-in-Ok-Whole-clause-whole : goal.returns-in-Ok-Whole-clause-whole
 returns-in-Ok-Whole-clause-whole c = λ before h n.
@@ -28,7 +28,7 @@ returns-in-Ok-More-clause-law c = λ before h.
     let a = held c.in-Some.scanner c.args.state.now before is h in
     more_law before c.args.piece.now c.args.state.now.limit c.in-Some.scanner.limit c.args.used.now c.scan.new.self _
     (let r = c.in-Some.ensures.range in let l = is.limit in omega (arith, r, l)) is.limit
-    c.in-Ok-More.ensures.limit (rw c.in-Ok-More.field-0-is at (c.in-Ok-More.ensures.law before a)) c.keep-in-Ok-More.ensures.holds
+    c.in-Ok-More.ensures.limit (rw c.in-Ok-More.field-0-is at (c.in-Ok-More.ensures.law before a)) c.keep-in-Ok-More.ensures.is
 
 pub returns-in-Ok-More-clause-whole : goal.returns-in-Ok-More-clause-whole
 returns-in-Ok-More-clause-whole c = λ before h n.

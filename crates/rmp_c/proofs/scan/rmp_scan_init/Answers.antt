@@ -7,4 +7,4 @@ returns-clause-holds c =
     let b = a.claims in
     let d = c.limit_bytes.ensures.limit in
     let e = c.ranges.limit.fits in
-    c.keep.ensures.holds [] a (omega (arith, d, e)) (omega (arith, b))
+    record { scanner = _; is = c.keep.ensures.is [] a (omega (arith, d, e)) (omega (arith, b)); after = a }

@@ -34,7 +34,7 @@ returns-in-Err-first_request-clause-refused c = λ o ne.
     let items : c.extend_from_slice.new.self.items ≡ old.bytes.items ++ c.split_at.result.0.now = search rules in
     let front : c.split_at.result.0.now ≡ take used piece = c.split_at.ensures.front ∙ ap (λ z. take z piece) same in
     is_other old.bytes.items piece c.as_slice.result.now used s.within s.ends
-    (c.as_slice.ensures.value ∙ items ∙ ap (λ z. old.bytes.items ++ z) front) _ (c.in-Err-first_request.ensures.err ne)
+    (c.as_slice.ensures.value ∙ items ∙ ap (λ z. old.bytes.items ++ z) front) _ _ c.in-Err-first_request.e ne c.in-Err-first_request.ensures.err
 
 pub returns-in-Err-first_request-clause-uncut : goal.returns-in-Err-first_request-clause-uncut
 returns-in-Err-first_request-clause-uncut c = λ o end.
@@ -50,16 +50,16 @@ returns-in-Err-first_request-clause-uncut c = λ o end.
 
 pub returns-in-Err-first_request-clause-whole : goal.returns-in-Err-first_request-clause-whole
 returns-in-Err-first_request-clause-whole c = λ o ne asked bytes rest later s e short deep.
-    never_stops _ _ _ asked bytes rest later s e short deep (c.read_as.ensures.reads asked s.fits s.texts) (refusal.NotRequest c.in-Err-first_request.e) ne
+    never_stops _ _ _ _ asked bytes rest later s e short deep (c.read_as.ensures.reads asked s.fits s.texts) (refusal.NotRequest c.in-Err-first_request.e) ne
     (returns-in-Err-first_request-clause-refused c o)
 
 pub returns-in-Err-clause-refused : goal.returns-in-Err-clause-refused
 returns-in-Err-clause-refused c = λ o.
     let old = c.args.self.now in
-    stops_as _ old.bytes.items c.args.piece.now old.scanner.limit c.scan.new.self c.in-Err.e c.refusal_for.result c.refusal_for.ensures
+    stops_as _ _ old.bytes.items c.args.piece.now old.scanner.limit c.scan.new.self c.in-Err.e c.refusal_for.result c.refusal_for.ensures
     (c.in-Err.ensures.law old.bytes.items o.after)
 
 pub returns-in-Err-clause-whole : goal.returns-in-Err-clause-whole
 returns-in-Err-clause-whole c = λ o ne asked bytes rest later s e short deep.
-    never_stops _ _ _ asked bytes rest later s e short deep (c.read_as.ensures.reads asked s.fits s.texts) c.refusal_for.result ne
+    never_stops _ _ _ _ asked bytes rest later s e short deep (c.read_as.ensures.reads asked s.fits s.texts) c.refusal_for.result ne
     (returns-in-Err-clause-refused c o)
