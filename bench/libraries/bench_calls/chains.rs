@@ -9,6 +9,7 @@ pub struct Chain {
 }
 
 /// An expression over numbers.
+#[derive(Drop)]
 pub enum Expr {
     Number(u32),
     Negated(Box<Expr>),
