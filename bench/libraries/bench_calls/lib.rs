@@ -52,12 +52,13 @@ fn values<'de, T: Deserialize<'de, ReadRefReader<'de>>>(
     found
 }
 
-// Writes the values of these messages, each by a call of its own.
+// Writes the values of these messages, each by a call of its own: structs as lists, or as maps from names.
 #[inline(always)]
 fn writes<'de, T: Deserialize<'de, ReadRefReader<'de>> + Serialize>(
     alloc: Global,
     data: &'de [u8],
     size: usize,
+    is_named: bool,
     reps: u32,
 ) -> usize
     requires { 0 < size }
@@ -67,30 +68,12 @@ fn writes<'de, T: Deserialize<'de, ReadRefReader<'de>> + Serialize>(
     for _ in 0..reps {
         sum = 0;
         for item in &items {
-            if let Ok(bytes) = to_vec(alloc, item) {
-                sum = sum.wrapping_add(bytes.len());
-            }
-        }
-    }
-    sum
-}
-
-// The same with structs as maps from names.
-#[inline(always)]
-fn writes_named<'de, T: Deserialize<'de, ReadRefReader<'de>> + Serialize>(
-    alloc: Global,
-    data: &'de [u8],
-    size: usize,
-    reps: u32,
-) -> usize
-    requires { 0 < size }
-{
-    let items: Vec<T> = values(alloc, data, size);
-    let mut sum: usize = 0;
-    for _ in 0..reps {
-        sum = 0;
-        for item in &items {
-            if let Ok(bytes) = to_vec_named(alloc, item) {
+            let written = if is_named {
+                to_vec_named(alloc, item)
+            } else {
+                to_vec(alloc, item)
+            };
+            if let Ok(bytes) = written {
                 sum = sum.wrapping_add(bytes.len());
             }
         }
@@ -107,7 +90,7 @@ pub extern "C" fn once_read_number(alloc: Global, data: &[u8], reps: u32) -> usi
 /// Writes numbers of five bytes, each by one call.
 #[unsafe(no_mangle)]
 pub extern "C" fn once_write_number(alloc: Global, data: &[u8], reps: u32) -> usize {
-    writes::<u32>(alloc, data, 5, reps)
+    writes::<u32>(alloc, data, 5, false, reps)
 }
 
 /// Reads texts of ten bytes, each by one call.
@@ -119,7 +102,7 @@ pub extern "C" fn once_read_text(alloc: Global, data: &[u8], reps: u32) -> usize
 /// Writes texts of ten bytes, each by one call.
 #[unsafe(no_mangle)]
 pub extern "C" fn once_write_text(alloc: Global, data: &[u8], reps: u32) -> usize {
-    writes::<String>(alloc, data, 11, reps)
+    writes::<String>(alloc, data, 11, false, reps)
 }
 
 /// Reads lists of three numbers, each by one call.
@@ -131,7 +114,7 @@ pub extern "C" fn once_read_row(alloc: Global, data: &[u8], reps: u32) -> usize 
 /// Writes lists of three numbers, each by one call.
 #[unsafe(no_mangle)]
 pub extern "C" fn once_write_row(alloc: Global, data: &[u8], reps: u32) -> usize {
-    writes::<Vec<u32>>(alloc, data, 4, reps)
+    writes::<Vec<u32>>(alloc, data, 4, false, reps)
 }
 
 /// Reads a chain.
@@ -143,13 +126,13 @@ pub extern "C" fn chain_read(alloc: Global, data: &[u8], reps: u32) -> usize {
 /// Writes a chain, of lists.
 #[unsafe(no_mangle)]
 pub extern "C" fn chain_write(alloc: Global, data: &[u8], reps: u32) -> usize {
-    writes::<Chain>(alloc, data, data.len().max(1), reps)
+    writes::<Chain>(alloc, data, data.len().max(1), false, reps)
 }
 
 /// Writes a chain, of maps from names.
 #[unsafe(no_mangle)]
 pub extern "C" fn chain_write_named(alloc: Global, data: &[u8], reps: u32) -> usize {
-    writes_named::<Chain>(alloc, data, data.len().max(1), reps)
+    writes::<Chain>(alloc, data, data.len().max(1), true, reps)
 }
 
 /// Reads an expression.
@@ -161,5 +144,5 @@ pub extern "C" fn expression_read(alloc: Global, data: &[u8], reps: u32) -> usiz
 /// Writes an expression.
 #[unsafe(no_mangle)]
 pub extern "C" fn expression_write(alloc: Global, data: &[u8], reps: u32) -> usize {
-    writes::<Expr>(alloc, data, data.len().max(1), reps)
+    writes::<Expr>(alloc, data, data.len().max(1), false, reps)
 }
